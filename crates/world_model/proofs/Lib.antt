@@ -1,0 +1,11 @@
+pub mod ListFacts
+pub mod NameFacts
+pub mod Joins
+pub mod Reaches
+pub mod Units
+pub mod Quiet
+pub mod Collections
+pub mod Solo
+pub mod Worked
+pub mod Busy
+pub mod Refused

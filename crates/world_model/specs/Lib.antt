@@ -1,0 +1,24 @@
+-- What this crate promises, as a text to be read from top to bottom.
+-- the Rust types, and the limits of a world
+pub mod Types
+pub mod Sizes
+-- small words on names and lists
+pub mod NameLists
+-- the world of objects, and what the root set reaches in it
+pub mod World
+pub mod Reach
+-- a history as a fold: what it leaves, and what each entry changes
+pub mod State
+pub mod Next
+-- which entry may come next: of a lane, a marker, the collector
+pub mod LaneSteps
+pub mod MarkerSteps
+pub mod CollectorSteps
+-- legal histories, and the entries of one call while nothing else runs
+pub mod Histories
+pub mod Calls
+-- the words of an engine's contract
+pub mod Engines
+-- laws, and histories that are legal or refused
+pub mod Laws
+pub mod Examples

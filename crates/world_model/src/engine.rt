@@ -1,0 +1,122 @@
+//! What every engine does, said by its history.
+ghost use Rattle.std.specs.Prelude.{◌≡◌, ◌+◌, ◌<◌, ◌≤◌, ◌⊎◌, ℕ, List, All, IsTrue, OnOk, OnErr, length, map, take, drop, true, false};
+ghost use Rattle.std.specs.List.{list_all};
+ghost use Rattle.world_model.specs.Types.{Ref, Entry, Lane, Marker, Collector};
+ghost use Rattle.world_model.specs.Types.act;
+ghost use Rattle.world_model.specs.Types.sweep;
+ghost use Rattle.world_model.specs.NameLists.{names_from};
+ghost use Rattle.world_model.specs.World.{is_open, made, left_of};
+ghost use Rattle.world_model.specs.State.{Holds};
+ghost use Rattle.world_model.specs.LaneSteps.{is_lawful};
+ghost use Rattle.world_model.specs.Histories.{state_of, after};
+ghost use Rattle.world_model.specs.Calls.{Appends};
+ghost use Rattle.world_model.specs.Engines.{IsInFrame, no_slice, KeepsHeld, KeepsOthers, act_of_create};
+
+use crate::kind::Kind;
+use crate::name::{Name, Ref};
+use crate::pass::Phase;
+use crate::reply::{Begin, Commit, CreateErr, Marked, Swept};
+use crate::shape::Shape;
+
+/// A world of objects, whichever way it is kept.
+///
+/// An engine means two things: its history, which is legal after every call, and for each lane the
+/// references that its open frame holds. Every call but `phase` and `left` adds to the history the
+/// entries of that call alone, the last of which carries its answer; so the conditions under which
+/// an entry may stand there are the causes of the answer. What a lane holds it holds until it
+/// closes its frame.
+pub trait Engine<S: Shape> {
+    /// All that was done, the first entry first.
+    ghost history: { Self → List Entry };
+
+    /// Which references the open frame of a lane holds.
+    ghost holds: { Self → ℕ → Ref → Type 0 };
+
+    /// Opens the frame of a lane, and tells the phase that it found. While a frame is open, no
+    /// collection begins or commits.
+    fn open_frame(&mut self, lane: u32) -> Phase
+        requires lane { lane < S.sizes.lanes }
+        requires closed { is_open (after (history self.old)) (Lane lane) ≡ false }
+        ensures entries { Appends S.sizes (history self.old) (history self.new) (Lane lane) (act.FrameOpen result) }
+        ensures held { KeepsHeld (holds self.old) (holds self.new) };
+
+    /// Closes the frame of a lane, which holds nothing after that.
+    fn close_frame(&mut self, lane: u32)
+        requires frame { IsInFrame S.sizes (history self.old) lane }
+        ensures entries { Appends S.sizes (history self.old) (history self.new) (Lane lane) act.FrameClose }
+        ensures held { KeepsOthers lane (holds self.old) (holds self.new) };
+
+    /// Makes one unit, a cluster of 1 to 1,024 objects of these kinds with empty cells, under the
+    /// next names of the lane, and writes references to them to `out`.
+    ///
+    /// It is refused with `NamesSpent` where the lane has too few names left, and else with `Full`
+    /// where too few of its indexes are free. Then nothing is made, and `out` stays.
+    fn create(&mut self, lane: u32, kinds: &[Kind], out: &mut [Ref]) -> Result<(), CreateErr>
+        requires frame { IsInFrame S.sizes (history self.old) lane }
+        requires some { 1 ≤ length kinds.now }
+        requires few { length kinds.now ≤ 1024 }
+        requires lawful { IsTrue (list_all (is_lawful S.sizes) kinds.now) }
+        requires room { length out.old ≡ length kinds.now }
+        ensures entries { Appends S.sizes (history self.old) (history self.new) (Lane lane) (act_of_create (after (history self.old)) lane kinds.now result) }
+        ensures names { OnOk result (map (λ r. r.name) out.new ≡ names_from lane (made (after (history self.old)) lane + 1) kinds.now) }
+        ensures given { OnOk result (All (holds self.new lane) out.new) }
+        ensures refused { OnErr result (out.new ≡ out.old) }
+        ensures held { KeepsHeld (holds self.old) (holds self.new) };
+
+    /// Adds an object to the root set, or takes it out of it, and tells whether it was there.
+    fn set_root(&mut self, lane: u32, at: Ref, on: bool) -> bool
+        requires frame { IsInFrame S.sizes (history self.old) lane }
+        requires at { holds self.old lane at }
+        ensures entries { Appends S.sizes (history self.old) (history self.new) (Lane lane) (act.Root at.name on result) }
+        ensures held { KeepsHeld (holds self.old) (holds self.new) };
+
+    /// Runs one slice of marking: scans grey units until `budget` objects or more are scanned, or
+    /// nothing is grey. The budget is tested before each unit, which is scanned whole.
+    fn mark(&mut self, marker: u32, budget: u32) -> Marked
+        requires marker { marker < S.sizes.markers }
+        requires alone { IsTrue (no_slice (after (history self.old))) }
+        ensures entries { Appends S.sizes (history self.old) (history self.new) (Marker marker) (act.Slice budget result) }
+        ensures held { KeepsHeld (holds self.old) (holds self.new) };
+
+    /// The phase of the collector.
+    fn phase(&mut self) -> Phase
+        ensures phase { result ≡ (after (history self.old)).phase }
+        ensures same { history self.new ≡ history self.old }
+        ensures held { KeepsHeld (holds self.old) (holds self.new) };
+
+    /// How many objects the last collection removed that are not released; while they are being
+    /// found, how many are found.
+    fn left(&mut self) -> u32
+        ensures left { result ≡ left_of (after (history self.old)) }
+        ensures same { history self.new ≡ history self.old }
+        ensures held { KeepsHeld (holds self.old) (holds self.new) };
+
+    /// Begins a collection and marks the root units. It is refused, in this order, while one runs,
+    /// while an object of the last one is not released, and while a frame or a slice is open.
+    fn begin(&mut self) -> Begin
+        ensures entries { Appends S.sizes (history self.old) (history self.new) Collector (act.BeginGc result) }
+        ensures held { KeepsHeld (holds self.old) (holds self.new) };
+
+    /// Removes all units that are not marked, where nothing is grey and no frame or slice is open.
+    /// It is refused, in this order, while no collection marks, while a unit is grey, and while a
+    /// frame or a slice is open.
+    fn commit(&mut self) -> Commit
+        ensures entries { Appends S.sizes (history self.old) (history self.new) Collector (act.CommitGc result) }
+        ensures held { KeepsHeld (holds self.old) (holds self.new) };
+
+    /// Looks for removed objects at up to `budget` items more of the object array, and writes the
+    /// names that it finds to the front of `found`. It stops early at the last item, and where
+    /// `found` is full. It finds nothing where no collection gathers.
+    fn sweep(&mut self, budget: u32, found: &mut [Name]) -> Swept
+        ensures entries { Appends S.sizes (history self.old) (history self.new) Collector (act.Sweep budget result (take result.found found.new)) }
+        ensures room { result.found ≤ length found.old }
+        ensures rest { drop result.found found.new ≡ drop result.found found.old }
+        ensures more { result.stop ≡ sweep.More → (result.looked ≡ budget) ⊎ (result.found ≡ length found.old) }
+        ensures held { KeepsHeld (holds self.old) (holds self.new) };
+
+    /// What a lane holds, the history gave it since it opened its frame.
+    ghost held_is_given: { (e : Self) (lane : ℕ) (r : Ref) → holds e lane r → Holds (state_of (history e)) lane r.name };
+
+    /// An object that is held has one index.
+    ghost one_index: { (e : Self) (k l : ℕ) (q r : Ref) → holds e k q → holds e l r → q.name ≡ r.name → q ≡ r };
+}
