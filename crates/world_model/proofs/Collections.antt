@@ -38,7 +38,7 @@ notes_mark : (p : Pass) (notes : List Act) → list_all is_mark_note notes ≡ t
 notes_mark p [] h = tt
 notes_mark p (a ∷ notes) h = let parts = and_true _ _ h in (note_marks a parts.0, notes_mark p notes parts.1)
 
-slice_marks : (s : State) (budget : ℕ) (reply : Marked) (acts : List Act) → SlicesAlone s 0 budget reply acts → AllMark (by (Marker 0) acts)
+pub slice_marks : (s : State) (budget : ℕ) (reply : Marked) (acts : List Act) → SlicesAlone s 0 budget reply acts → AllMark (by (Marker 0) acts)
 slice_marks s budget reply acts h =
     subst (λ (some : List Act). AllMark (by (Marker 0) some)) (sym h.are)
     (subst AllMark (sym (by-append (Marker 0) (act.SliceOpen ∷ h.notes) (act.Slice budget reply ∷ [])))

@@ -9,3 +9,4 @@ pub mod Solo
 pub mod Worked
 pub mod Busy
 pub mod Refused
+pub mod Progress

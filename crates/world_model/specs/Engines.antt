@@ -1,7 +1,7 @@
 -- The words of an engine's contract. An engine means two things: its history, and for each lane the references that its open frame holds.
-use Rattle.std.specs.Prelude.{◌≢◌, ◌<◌, ◌+◌, ℕ, Bool, true, false, not, List, length, Option, Result, Ok, Err, IsTrue, option_map}
+use Rattle.std.specs.Prelude.{◌≢◌, ◌<◌, ◌+◌, ℕ, Bool, true, false, not, List, length, Result, Ok, Err, IsTrue}
 use Rattle.std.specs.List.{list_any}
-use Rattle.world_model.specs.Types.{Name, Ref, Kind, Pass, Lane, Marker, CreateErr, Act, Entry}
+use Rattle.world_model.specs.Types.{Ref, Kind, Pass, Lane, Marker, CreateErr, Act, Entry}
 use Rattle.world_model.specs.Types.act
 use Rattle.world_model.specs.Types.create
 use Rattle.world_model.specs.Sizes.{Sizes}
@@ -11,10 +11,6 @@ use Rattle.world_model.specs.Histories.{after}
 -- what the lanes hold: a test of lane and reference
 abbrev pub Holdings : Type 1
 Holdings = ℕ → Ref → Type 0
-
--- the name behind a reference, if there is one
-abbrev pub name_of : Option Ref → Option Name
-name_of to = option_map (λ r. r.name) to
 
 -- the lane is one of the shape, and its frame is open
 pub record IsInFrame (z : Sizes) (history : List Entry) (lane : ℕ) : Type 0 where
