@@ -38,18 +38,18 @@ notes_mark : (p : Pass) (notes : List Act) → list_all is_mark_note notes ≡ t
 notes_mark p [] h = tt
 notes_mark p (a ∷ notes) h = let parts = and_true _ _ h in (note_marks a parts.0, notes_mark p notes parts.1)
 
-pub slice_marks : (s : State) (budget : ℕ) (reply : Marked) (acts : List Act) → SlicesAlone s 0 budget reply acts → AllMark (by (Marker 0) acts)
-slice_marks s budget reply acts h =
-    subst (λ (some : List Act). AllMark (by (Marker 0) some)) (sym h.are)
-    (subst AllMark (sym (by-append (Marker 0) (act.SliceOpen ∷ h.notes) (act.Slice budget reply ∷ [])))
-    (all_append (by (Marker 0) (act.SliceOpen ∷ h.notes)) (by (Marker 0) (act.Slice budget reply ∷ [])) (refl, notes_mark (Marker 0) h.notes h.only) (refl, tt)))
+pub slice_marks : (s : State) (marker budget : ℕ) (reply : Marked) (acts : List Act) → SlicesAlone s marker budget reply acts → AllMark (by (Marker marker) acts)
+slice_marks s marker budget reply acts h =
+    subst (λ (some : List Act). AllMark (by (Marker marker) some)) (sym h.are)
+    (subst AllMark (sym (by-append (Marker marker) (act.SliceOpen ∷ h.notes) (act.Slice budget reply ∷ [])))
+    (all_append (by (Marker marker) (act.SliceOpen ∷ h.notes)) (by (Marker marker) (act.Slice budget reply ∷ [])) (refl, notes_mark (Marker marker) h.notes h.only) (refl, tt)))
 
 slices_mark : (s : State) (budget : ℕ) (slices : List (List Act)) → SlicesUntilIdle s budget slices → AllMark (flat_map (by (Marker 0)) slices)
 slices_mark s budget [] h = tt
-slices_mark s budget (last ∷ []) h = all_append (by (Marker 0) last) [] (slice_marks s budget _ last h.1) tt
-slices_mark s budget (acts ∷ next ∷ rest) h = all_append (by (Marker 0) acts) _ (slice_marks s budget _ acts h.1) (slices_mark (run s (by (Marker 0) acts)) budget (next ∷ rest) h.2)
+slices_mark s budget (last ∷ []) h = all_append (by (Marker 0) last) [] (slice_marks s 0 budget _ last h.1) tt
+slices_mark s budget (acts ∷ next ∷ rest) h = all_append (by (Marker 0) acts) _ (slice_marks s 0 budget _ acts h.1) (slices_mark (run s (by (Marker 0) acts)) budget (next ∷ rest) h.2)
 
-keeps_mark : (of : List Name) → AllMark (by Collector (map act.Kept of))
+pub keeps_mark : (of : List Name) → AllMark (by Collector (map act.Kept of))
 keeps_mark [] = tt
 keeps_mark (n ∷ of) = (refl, keeps_mark of)
 

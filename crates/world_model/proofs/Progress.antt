@@ -1,22 +1,25 @@
 -- A slice that scans something leaves fewer units unscanned, and a whole collection comes to its commit.
-use Rattle.std.proofs.Common.{◌≡◌, ℕ, ◌+◌, ◌<◌, ◌≤◌, refl, sym, subst, ap, ◌∙◌, inl, inr, arith, Bool, cond, not, true, false, List, [], ◌∷◌, ◌++◌, length, ◌⊎◌}
+use Rattle.std.proofs.Common.{◌≡◌, ℕ, ◌+◌, ◌<◌, ◌≤◌, refl, sym, subst, ap, ◌∙◌, inl, inr, arith, Bool, cond, not, true, false, List, [], ◌∷◌, ◌++◌, map, length, ◌⊎◌, filter}
 use Rattle.std.specs.List.{list_any, list_all}
-use Rattle.world_model.specs.Types.{Name, Marking, Pass, Marker, Marked, Commit, Act, Entry}
+use Rattle.world_model.specs.Types.{Name, Phase, Idle, Marking, Gathering, Pass, Marker, Collector, Marked, Commit, Act, Entry}
+use Rattle.world_model.specs.Types.begin
+use Rattle.world_model.specs.Types.stop
 use Rattle.world_model.specs.Types.act
 use Rattle.world_model.specs.Types.commit
 use Rattle.world_model.specs.Sizes.{Sizes}
-use Rattle.world_model.specs.NameLists.{same_name, has}
+use Rattle.world_model.specs.NameLists.{same_name, same_pass, has}
 use Rattle.world_model.specs.World.{World, unit_of}
-use Rattle.world_model.specs.State.{State, Marks, Slicing, is_grey, grey_units}
+use Rattle.world_model.specs.State.{State, Marks, Slicing, is_grey, grey_in, grey_units}
 use Rattle.world_model.specs.Next.{next, run}
 use Rattle.world_model.specs.MarkerSteps.{member_count}
 use Rattle.world_model.specs.CollectorSteps.{CommitMay}
-use Rattle.world_model.specs.Histories.{MayBy, LegalFrom}
-use Rattle.world_model.specs.Calls.{by, is_mark_note, SlicesAlone, CommitsAlone}
+use Rattle.world_model.specs.Histories.{MayBy, LegalFrom, state_of, after}
+use Rattle.world_model.specs.Calls.{by, is_mark_note, SlicesAlone, CommitsAlone, Appends}
 use Rattle.world_model.proofs.ListFacts.{and_true, or_true, or_right, Among}
 use Rattle.world_model.proofs.NameFacts.{same_name_true, same_name_refl, found_unit, set_at_same}
 use Rattle.world_model.proofs.Joins.{run-append, by-append, legal_split}
-use Rattle.world_model.proofs.Collections.{is_marking, AllMark}
+use Rattle.world_model.proofs.Collections.{is_marking, AllMark, keeps_mark, slice_marks}
+use Rattle.world_model.proofs.Solo.{state_after, legal_call, notes_keep, slice_opened}
 
 -- ---- the world while a collection marks
 
@@ -102,7 +105,7 @@ grey_unscanned : (m : Marks) (u : List Name) → is_grey m u ≡ true → list_a
 grey_unscanned m u h = go (list_any (has m.scanned) u) refl
   where
     go : (b : Bool) → list_any (has m.scanned) u ≡ b → list_any (has m.scanned) u ≡ false
-    go true e = absurd (let part : not (list_any (has m.scanned) u) ≡ true = (and_true _ _ h).1 in let wrong : not (list_any (has m.scanned) u) ≡ false = rw e refl in cc)
+    go true e = absurd (let part : not (list_any (has m.scanned) u) ≡ true = (and_true (list_any (has m.kept) u) (not (list_any (has m.scanned) u)) h).1 in let wrong : not (list_any (has m.scanned) u) ≡ false = rw e refl in cc)
     go false e = e
 
 -- what one note of a slice leaves to scan
@@ -160,7 +163,51 @@ slice_progress z s marker budget reply acts h legal some =
         let zero_scanned : reply.scanned ≡ 0 = counted ∙ ap member_count (same ∙ none) in
         absurd (omega arith)
 
--- ---- the commit of a whole collection
+-- ---- a whole collection, call by call
+
+-- when a collection has started, its phase is Marking and nothing is open
+pub started_world : (z : Sizes) (old new : List Entry) → Appends z old new Collector (act.BeginGc begin.Started) → ((after new).phase ≡ Marking) × ((after new).opened ≡ [])
+started_world z old new h =
+    let start : Entry = record { pass = Collector; act = act.BeginGc begin.Started } in
+    let notes : List Act = map act.Kept h.call.of in
+    let entries : by Collector h.acts ≡ start ∷ by Collector notes = ap (by Collector) h.call.are in
+    let may = (subst (LegalFrom z (state_of old)) entries (legal_call z old new Collector (act.BeginGc begin.Started) h)).0 in
+    let left : state_of new ≡ run (next (state_of old) start) (by Collector notes) = state_after z old new Collector (act.BeginGc begin.Started) h ∙ ap (run (state_of old)) entries in
+    let leaves = marks_leave (next (state_of old) start) (by Collector notes) (keeps_mark h.call.of) in (
+      ap (λ (s : State). s.world.phase) left ∙ ap (λ (w : World). w.phase) leaves,
+      ap (λ (s : State). s.world.opened) left ∙ notes_keep (next (state_of old) start) Collector notes (kept_notes h.call.of) ∙ may.may.1,
+    )
+  where
+    kept_notes : (of : List Name) → list_all is_mark_note (map act.Kept of) ≡ true
+    kept_notes [] = refl
+    kept_notes (n ∷ of) = kept_notes of
+
+-- a slice leaves the phase, and where nothing was open nothing is
+pub slice_world : (z : Sizes) (old new : List Entry) (marker budget : ℕ) (reply : Marked) → Appends z old new (Marker marker) (act.Slice budget reply)
+    → ((after new).phase ≡ (after old).phase) × ((after old).opened ≡ [] → (after new).opened ≡ [])
+slice_world z old new marker budget reply h =
+    let left : state_of new ≡ run (state_of old) (by (Marker marker) h.acts) = state_after z old new (Marker marker) (act.Slice budget reply) h in
+    let leaves = marks_leave (state_of old) (by (Marker marker) h.acts) (slice_marks (state_of old) marker budget reply h.acts h.call) in (
+      ap (λ (s : State). s.world.phase) left ∙ ap (λ (w : World). w.phase) leaves,
+      λ none. ap (λ (s : State). s.world.opened) left ∙ slice_opened (state_of old) marker budget reply h.acts h.call ∙ ap (filter (λ q. not (same_pass (Marker marker) q))) none,
+    )
+
+-- what is grey does not hang on the moments
+grey_moments : (phase : Phase) (m : Marks) (moments : List World) (units : List (List Name)) → grey_in phase (record m { moments = moments }) units ≡ grey_in phase m units
+grey_moments Idle m moments units = refl
+grey_moments Marking m moments units = refl
+grey_moments Gathering m moments units = refl
+
+-- a slice that is idle leaves nothing grey
+pub idle_black : (z : Sizes) (old new : List Entry) (marker budget : ℕ) (reply : Marked) → Appends z old new (Marker marker) (act.Slice budget reply) → reply.stop ≡ stop.Idle → grey_units (state_of new) ≡ []
+idle_black z old new marker budget reply h idle =
+    let opening : List Act = act.SliceOpen ∷ h.call.notes in
+    let closing : Entry = record { pass = Marker marker; act = act.Slice budget reply } in
+    let entries : by (Marker marker) h.acts ≡ by (Marker marker) opening ++ closing ∷ [] = ap (by (Marker marker)) h.call.are ∙ by-append (Marker marker) opening (act.Slice budget reply ∷ []) in
+    let left : state_of new ≡ next (run (state_of old) (by (Marker marker) opening)) closing =
+    state_after z old new (Marker marker) (act.Slice budget reply) h ∙ ap (run (state_of old)) entries ∙ run-append (state_of old) (by (Marker marker) opening) (closing ∷ []) in
+    let before : State = run (state_of old) (by (Marker marker) opening) in
+    ap grey_units left ∙ grey_moments before.world.phase before.marks ((next before closing).marks.moments) before.world.units ∙ (h.call.idle.0 idle).1
 
 -- where nothing is grey and no frame or slice is open, a solo commit is done
 pub commit_done : (s : State) (reply : Commit) (acts : List Act) → CommitsAlone s reply acts → CommitMay s reply → s.world.phase ≡ Marking → s.world.opened ≡ [] → grey_units s ≡ [] → reply ≡ commit.Done

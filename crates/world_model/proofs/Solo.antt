@@ -1,5 +1,5 @@
 -- Solo calls: how one is made, what it leaves, and that it closes the slice that it opens.
-use Rattle.std.proofs.Common.{◌≡◌, ℕ, refl, sym, subst, ap, ◌∙◌, inl, inr, Bool, not, true, false, ◌||◌, List, [], ◌∷◌, ◌++◌, ◌==◌, map, filter}
+use Rattle.std.proofs.Common.{◌≡◌, ℕ, refl, sym, subst, ap, ◌∙◌, inl, inr, Bool, cond, not, true, false, ◌||◌, List, [], ◌∷◌, ◌++◌, ◌==◌, map, filter}
 use Rattle.std.specs.List.{list_any, list_all}
 use Rattle.std.proofs.lemmas.Bool.{eq-eqb}
 use Rattle.world_model.specs.Types.{Name, Pass, Lane, Marker, Collector, Marked, Act, Entry}
@@ -90,7 +90,7 @@ parts_open_none (a ∷ parts) last e all = let both = and_true _ _ all in no_par
     no_part a rest is = absurd cc
 
 -- the notes of a slice open and close nothing
-notes_keep : (s : State) (p : Pass) (notes : List Act) → list_all is_mark_note notes ≡ true → (run s (by p notes)).world.opened ≡ s.world.opened
+pub notes_keep : (s : State) (p : Pass) (notes : List Act) → list_all is_mark_note notes ≡ true → (run s (by p notes)).world.opened ≡ s.world.opened
 notes_keep s p [] all = refl
 notes_keep s p (a ∷ notes) all = let both = and_true _ _ all in notes_keep (next s (record { pass = p; act = a })) p notes both.1 ∙ one a both.0
   where
@@ -99,19 +99,23 @@ notes_keep s p (a ∷ notes) all = let both = and_true _ _ all in notes_keep (ne
     one (act.Scanned of) is = refl
     one a is = absurd cc
 
--- a slice closes itself
-slice_closed : (s : State) (marker budget : ℕ) (reply : Marked) (acts : List Act) → SlicesAlone s marker budget reply acts → NoMarker s.world.opened → NoMarker (run s (by (Marker marker) acts)).world.opened
-slice_closed s marker budget reply acts h none =
+-- a slice leaves open what was open, but for its marker
+pub slice_opened : (s : State) (marker budget : ℕ) (reply : Marked) (acts : List Act) → SlicesAlone s marker budget reply acts → (run s (by (Marker marker) acts)).world.opened ≡ filter (λ q. not (same_pass (Marker marker) q)) s.world.opened
+slice_opened s marker budget reply acts h =
     let opening : List Act = act.SliceOpen ∷ h.notes in
+    let closing : Entry = record { pass = Marker marker; act = act.Slice budget reply } in
     let before : State = run s (by (Marker marker) opening) in
-    let entries : by (Marker marker) acts ≡ by (Marker marker) opening ++ record { pass = Marker marker; act = act.Slice budget reply } ∷ [] =
-    ap (by (Marker marker)) h.are ∙ by-append (Marker marker) opening (act.Slice budget reply ∷ []) in
+    let entries : by (Marker marker) acts ≡ by (Marker marker) opening ++ closing ∷ [] = ap (by (Marker marker)) h.are ∙ by-append (Marker marker) opening (act.Slice budget reply ∷ []) in
     let same : before.world.opened ≡ Marker marker ∷ s.world.opened = notes_keep (next s (record { pass = Marker marker; act = act.SliceOpen })) (Marker marker) h.notes h.only in
     let own : (marker == marker) ≡ true = eq-eqb marker marker refl in
-    let closed : NoMarker (filter (λ q. not (same_pass (Marker marker) q)) (Marker marker ∷ s.world.opened)) = rw own (no_marker_filter _ s.world.opened none) in
-    let end : NoMarker (filter (λ q. not (same_pass (Marker marker) q)) before.world.opened) = rw same closed in
-    subst (λ (es : List Entry). NoMarker (run s es).world.opened) (sym entries)
-    (subst (λ (t : State). NoMarker t.world.opened) (sym (run-append s (by (Marker marker) opening) (record { pass = Marker marker; act = act.Slice budget reply } ∷ []))) end)
+    ap (λ (es : List Entry). (run s es).world.opened) entries
+    ∙ ap (λ (t : State). t.world.opened) (run-append s (by (Marker marker) opening) (closing ∷ []))
+    ∙ ap (filter (λ q. not (same_pass (Marker marker) q))) same
+    ∙ ap (λ (b : Bool). cond (not b) (Marker marker ∷ filter (λ q. not (same_pass (Marker marker) q)) s.world.opened) (filter (λ q. not (same_pass (Marker marker) q)) s.world.opened)) own
+
+-- a slice closes itself
+slice_closed : (s : State) (marker budget : ℕ) (reply : Marked) (acts : List Act) → SlicesAlone s marker budget reply acts → NoMarker s.world.opened → NoMarker (run s (by (Marker marker) acts)).world.opened
+slice_closed s marker budget reply acts h none = subst NoMarker (sym (slice_opened s marker budget reply acts h)) (no_marker_filter _ s.world.opened none)
 
 -- a call that is no slice opens none
 pub call_closed : (z : Sizes) (s : State) (p : Pass) (a : Act) (acts : List Act) → CallOf s p a acts → LegalFrom z s (by p acts) → NoMarker s.world.opened → NoMarker (run s (by p acts)).world.opened

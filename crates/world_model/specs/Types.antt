@@ -1,4 +1,4 @@
--- The Rust types of this crate under one name, for these definitions and for the crates above.
+-- The Rust types of this crate under one name, for its definitions and proofs.
 pub use Rattle.world_model.specs.declared.name.Name.{Name}
 pub use Rattle.world_model.specs.declared.name.Ref.{Ref}
 pub use Rattle.world_model.specs.declared.name.Weak.{Weak}
