@@ -1,0 +1,5 @@
+pub mod Cutting
+pub mod Forming
+pub mod Tables
+pub mod Turning
+pub mod Framing

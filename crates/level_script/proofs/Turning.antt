@@ -1,0 +1,54 @@
+-- What one more line adds.
+use Rattle.std.proofs.Common.{◌≡◌, ℕ, ◌+◌, List, [], ◌∷◌, refl, sym, ap, ◌∙◌, length, Option, Some, None, Ok, Err, MatchOption}
+use Rattle.std.specs.Prelude.{slice_get, slice_set}
+use Rattle.level_script.specs.Lanes.{lane_step, lane_index, StepsAt}
+use Rattle.level_script.specs.Context.{lane_turn, lane_of, lane_at, with_lane, with_line}
+use Rattle.level_script.specs.Reading.{line_turn, read_from, read_on, fault_at, TurnsLine, ReadsLines}
+use Rattle.level_script.specs.declared.cause.ParseErr.{ParseErr}
+use Rattle.level_script.specs.declared.cause.ParseErr.TheVariants as parse
+use Rattle.level_script.specs.declared.cause.Cause.{Cause}
+use Rattle.level_script.specs.declared.context.Context.{Context}
+use Rattle.level_script.specs.declared.lanes.LaneNames.{LaneNames}
+use Rattle.level_script.specs.declared.said.Does.{Does}
+use Rattle.level_script.specs.declared.script.Cmd.{Cmd}
+use Rattle.level_script.specs.declared.script.Who.TheVariants as who
+use Rattle.level_script.specs.declared.word.Number.{Number}
+
+-- what a line of a lane leaves
+abbrev after_lane : ℕ → Context → ℕ → List LaneNames → Cmd → Context
+after_lane number c index lanes command = with_line (record { classes = c.classes; in_header = c.in_header; lanes = lanes; lines = c.lines }) number (who.Lane index) command
+
+-- the same of a lane that is there
+at_ok : (number : ℕ) (c : Context) (index : ℕ) (does : Does) (new : List LaneNames) (command : Cmd) (o : Option LaneNames) →
+    MatchOption o ⊥ (λ lane. (left : LaneNames) × (new ≡ slice_set c.lanes index left) × (lane_step c.classes lane does ≡ Ok (left, command))) →
+    lane_at number c index o does ≡ Ok (after_lane number c index new command)
+at_ok number c index does new command None h = absurd h
+at_ok number c index does new command (Some lane) (left, set, step) = ap (with_lane number c index) step ∙ (λ t. Ok (after_lane number c index (sym set t) command))
+
+-- a lane that has done what it says makes the line
+pub lane_ok : (number : ℕ) (c : Context) (lane : Number) (does : Does) (index : ℕ) (new : List LaneNames) (command : Cmd) →
+    lane_index (length c.lanes) lane ≡ Some index → StepsAt c.classes c.lanes index does new (Ok command) →
+    lane_turn number c lane does ≡ Ok (after_lane number c index new command)
+lane_ok number c lane does index new command found steps = ap (λ i. lane_of number c i does) found ∙ at_ok number c index does new command (slice_get c.lanes index) steps
+
+-- ---- lines after one another
+
+-- after the last line
+pub read_none : (number : ℕ) (c : Context) → read_from number c [] ≡ Ok c
+unfolding read_from
+read_none number c = refl
+
+-- after a line that is read
+pub read_more : (number : ℕ) (c next : Context) (line : List ℕ) (later : List (List ℕ)) → line_turn number c line later ≡ Ok next → read_from number c (line ∷ later) ≡ read_from (number + 1) next later
+unfolding read_from
+read_more number c next line later e = ap (λ r. read_on number r (λ n. read_from (number + 1) n later)) e
+
+-- at a line with a cause
+pub read_fault : (number : ℕ) (c : Context) (line : List ℕ) (later : List (List ℕ)) (why : Cause) → line_turn number c line later ≡ Err why → read_from number c (line ∷ later) ≡ Err (fault_at number why)
+unfolding read_from
+read_fault number c line later why e = ap (λ r. read_on number r (λ n. read_from (number + 1) n later)) e
+
+-- a fault of the first line is that of the lines
+pub reads_err : (A : Type 0) (number : ℕ) (c : Context) (line : List ℕ) (later : List (List ℕ)) (new left : Context) (error : ParseErr) → TurnsLine {A = A} (line_turn number c line later) number new (Err error) → ReadsLines {A = A} (read_from number c (line ∷ later)) left (Err error)
+reads_err A number c line later new left (parse.Bad fault) (why, e, is) = read_fault number c line later why e ∙ ap Err (sym is)
+reads_err A number c line later new left parse.Memory h = tt

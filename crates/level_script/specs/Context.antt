@@ -1,0 +1,96 @@
+-- What the lines so far have made known, and what one more line adds.
+use Rattle.std.specs.Prelude.{◌≡◌, ℕ, ◌≤◌, true, false, List, [], ◌∷◌, ◌++◌, map, replicate, length, Option, Some, None, Result, Ok, Err, slice_get, slice_set}
+use Rattle.level_script.specs.Class.{Class}
+use Rattle.level_script.specs.Classes.{object, added}
+use Rattle.level_script.specs.Commands.{said_by_line}
+use Rattle.level_script.specs.Lanes.{closed_lane, count_of, lane_step, lane_index}
+use Rattle.level_script.specs.declared.cause.Cause.{Cause}
+use Rattle.level_script.specs.declared.cause.Cause.TheVariants as cause
+use Rattle.level_script.specs.declared.cause.SchemaErr.{SchemaErr}
+use Rattle.level_script.specs.declared.cause.Stop.{Stop}
+use Rattle.level_script.specs.declared.cause.Stop.TheVariants as stop
+use Rattle.level_script.specs.declared.context.Context.{Context}
+use Rattle.level_script.specs.declared.lanes.LaneNames.{LaneNames}
+use Rattle.level_script.specs.declared.limits.Limits.{Limits}
+use Rattle.level_script.specs.declared.said.Does.{Does}
+use Rattle.level_script.specs.declared.said.Said.{Said}
+use Rattle.level_script.specs.declared.said.Said.TheVariants as said
+use Rattle.level_script.specs.declared.script.Cmd.{Cmd}
+use Rattle.level_script.specs.declared.script.Cmd.TheVariants as cmd
+use Rattle.level_script.specs.declared.script.Script.{Script}
+use Rattle.level_script.specs.declared.script.Who.{Who}
+use Rattle.level_script.specs.declared.script.Who.TheVariants as who
+use Rattle.level_script.specs.declared.word.Number.{Number}
+
+-- limits in their ranges
+pub record AreLawful (limits : Limits) : Type 0 where
+  pub some_lanes : 1 ≤ limits.lanes
+  pub few_lanes : limits.lanes ≤ 8
+  pub some_slots : 1 ≤ limits.slots
+  pub few_slots : limits.slots ≤ 64
+  pub some_strong : 1 ≤ limits.strong
+  pub few_strong : limits.strong ≤ 1024
+  pub some_markers : 1 ≤ limits.markers
+  pub few_markers : limits.markers ≤ 16
+
+-- what is known before the first line
+abbrev pub start : Limits → Context
+start limits = record { classes = object ∷ []; in_header = true; lanes = replicate limits.lanes closed_lane; lines = [] }
+
+-- a line that does something, which ends the header
+abbrev pub with_line : Context → ℕ → Who → Cmd → Context
+with_line c number by command = record { classes = c.classes; in_header = false; lanes = c.lanes; lines = c.lines ++ record { number = number; who = by; cmd = command } ∷ [] }
+
+-- the classes with a new one
+abbrev pub with_classes : Context → Result (List Class) SchemaErr → Result Context Cause
+with_classes c (Ok classes) = Ok (record { classes = classes; in_header = c.in_header; lanes = c.lanes; lines = c.lines })
+with_classes c (Err refusal) = Err (cause.Schema refusal)
+
+-- a line of the header
+abbrev pub class_turn : ℕ → Context → List ℕ → List ℕ → Result Context Cause
+class_turn number c name parent = with_classes c (added c.classes number name parent)
+
+-- the lane that is left, and the line
+abbrev pub with_lane : ℕ → Context → ℕ → Result (LaneNames × Cmd) Cause → Result Context Cause
+with_lane number c index (Ok (lane, command)) = Ok (with_line (record { classes = c.classes; in_header = c.in_header; lanes = slice_set c.lanes index lane; lines = c.lines }) number (who.Lane index) command)
+with_lane number c index (Err why) = Err why
+
+-- the same of the lane at a place
+abbrev pub lane_at : ℕ → Context → ℕ → Option LaneNames → Does → Result Context Cause
+lane_at number c index None does = Err cause.Number
+lane_at number c index (Some lane) does = with_lane number c index (lane_step c.classes lane does)
+
+-- the same of a lane that may be there
+abbrev pub lane_of : ℕ → Context → Option ℕ → Does → Result Context Cause
+lane_of number c None does = Err cause.Number
+lane_of number c (Some index) does = lane_at number c index (slice_get c.lanes index) does
+
+-- a line of a lane; a number that names no lane is out of its range
+abbrev pub lane_turn : ℕ → Context → Number → Does → Result Context Cause
+lane_turn number c lane does = lane_of number c (lane_index (length c.lanes) lane) does
+
+-- what is known after a line that says this, or what is wrong with it
+abbrev pub act_turn : ℕ → Context → Said → Result Context Cause
+act_turn number c said.Nothing = Ok c
+act_turn number c (said.Class name parent) = class_turn number c name parent
+act_turn number c said.Full = Ok (with_line c number who.Gc cmd.GcFull)
+act_turn number c (said.Lane lane does) = lane_turn number c lane does
+
+-- the same of a line that may be wrong
+abbrev pub if_said : ℕ → Context → Result Said Cause → Result Context Cause
+if_said number c (Ok what) = act_turn number c what
+if_said number c (Err why) = Err why
+
+-- what is known after a line, before the later lines, or what is wrong with it
+abbrev pub turn : ℕ → Context → List ℕ → List (List ℕ) → Result Context Cause
+turn number c line later = if_said number c (said_by_line c.in_header line later)
+
+-- the context that is left is what is wanted, and so is the cause; there may be no memory for it
+abbrev pub Turns : {A : Type 0} → Result Context Cause → Context → Result A Stop → Type 0
+Turns want new (Ok done) = want ≡ Ok new
+Turns want new (Err (stop.Faulty why)) = want ≡ Err why
+Turns want new (Err stop.Memory) = Unit {0}
+
+-- the script that all lines are
+abbrev pub script_from : Context → Script
+script_from c = record { classes = c.classes; fields = []; lines = c.lines; vars = map count_of c.lanes; weaks = 0 }

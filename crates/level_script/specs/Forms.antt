@@ -1,0 +1,46 @@
+-- The forms of words.
+use Rattle.std.specs.Prelude.{ℕ, ◌==◌, ◌-◌, ◌^◌, Bool, false, ◌&&◌, ◌||◌, nat_le, nat_lt, List, [], ◌∷◌, map, length, codes, Option, Some, None, if◌then◌else◌}
+use Rattle.std.specs.List.{list_all}
+use Rattle.std.specs.Str.{bytes_eq}
+use Rattle.std.specs.Char.{is_ascii_digit, is_ascii_alphabetic}
+use Rattle.std.specs.Int.Digits.{number_from_digits}
+use Rattle.level_script.specs.declared.word.Number.{Number}
+use Rattle.level_script.specs.declared.word.Number.TheVariants.{Value, OutOfRange}
+
+-- an ASCII letter or `_`
+abbrev pub begins_identifier : ℕ → Bool
+begins_identifier b = is_ascii_alphabetic b || b == 95
+
+-- an ASCII letter, a digit or `_`
+abbrev pub continues_identifier : ℕ → Bool
+continues_identifier b = is_ascii_alphabetic b || is_ascii_digit b || b == 95
+
+-- an identifier, of 1 to 64 bytes
+abbrev pub is_identifier : List ℕ → Bool
+is_identifier [] = false
+is_identifier (b ∷ bs) = begins_identifier b && list_all continues_identifier bs && nat_lt (length bs) 64
+
+-- an identifier
+abbrev pub identifier_of : List ℕ → Option (List ℕ)
+identifier_of word = if is_identifier word then Some word else None
+
+-- an identifier that names a variable: `none` names none
+abbrev pub variable_of : List ℕ → Option (List ℕ)
+variable_of word = if bytes_eq word (codes "none") then None else identifier_of word
+
+-- made of digits alone
+abbrev pub is_digits : List ℕ → Bool
+is_digits word = list_all is_ascii_digit word
+
+-- the number that digits write
+abbrev pub written : List ℕ → ℕ
+written digits = number_from_digits 10 (map (λ b. b - 48) digits)
+
+-- the number of a word of digits: at most 20 of them, and below 2^64
+abbrev pub number_of : List ℕ → Number
+number_of digits = if nat_le (length digits) 20 && nat_lt (written digits) (2 ^ 64) then Value (written digits) else OutOfRange
+
+-- a line whose first word begins so does nothing
+abbrev pub is_comment : List ℕ → Bool
+is_comment [] = false
+is_comment (b ∷ bs) = b == 35

@@ -1,0 +1,116 @@
+//! What the lines so far have made known, and what one more line adds.
+ghost use Rattle.std.specs.Prelude.{◌≡◌, IfOk, Ok};
+ghost use Rattle.level_script.specs.Lines.{input_lines};
+ghost use Rattle.level_script.specs.Context.{AreLawful, start, with_line, class_turn, lane_turn, act_turn, turn, Turns, script_from};
+
+use crate::cause::{Cause, Stop};
+use crate::classes::{AddErr, ClassTable};
+use crate::command::read_line;
+use crate::lanes::Lanes;
+use crate::limits::Limits;
+use crate::said::{Does, Said};
+use crate::script::{Cmd, FieldNames, Line, Lines, Script, Who};
+use crate::word::{Identifier, Number};
+use std::alloc::{AllocError, Global};
+
+/// What the lines so far have made known.
+#[derive(Drop)]
+pub struct Context {
+    classes: ClassTable,
+    /// Whether no line of another command than those of the header has come.
+    in_header: bool,
+    lanes: Lanes,
+    /// The lines that do something.
+    lines: Lines,
+}
+
+impl Context {
+    /// What is known before the first line.
+    pub fn new(alloc: Global, limits: &Limits) -> Result<Context, AllocError>
+        requires { AreLawful limits.now }
+        ensures { IfOk result (λ context. context ≡ start limits.now) }
+    {
+        let classes = ClassTable::new(alloc, limits.slots)?;
+        let lanes = Lanes::new(alloc, limits.lanes)?;
+        Ok(Context {
+            classes,
+            in_header: true,
+            lanes,
+            lines: Lines::new(alloc),
+        })
+    }
+
+    fn push(&mut self, number: u32, who: Who, cmd: Cmd) -> Result<(), Stop>
+        ensures { Turns (Ok (with_line self.old number who cmd)) self.new result }
+    {
+        self.in_header = false;
+        match self.lines.push(Line { number, who, cmd }) {
+            Ok(()) => Ok(()),
+            Err(_) => Err(Stop::Memory),
+        }
+    }
+
+    fn add_class(
+        &mut self,
+        number: u32,
+        name: &Identifier<'_>,
+        parent: &Identifier<'_>,
+    ) -> Result<(), Stop>
+        ensures { Turns (class_turn number self.old name.now parent.now) self.new result }
+    {
+        match self
+            .classes
+            .add_class(number, name.as_str(), parent.as_str())
+        {
+            Ok(_) => Ok(()),
+            Err(AddErr::Schema(refusal)) => Err(Stop::Faulty(Cause::Schema(refusal))),
+            Err(AddErr::Memory) => Err(Stop::Memory),
+        }
+    }
+
+    fn lane_line(&mut self, number: u32, lane: &Number, does: &Does<'_>) -> Result<(), Stop>
+        ensures { Turns (lane_turn number self.old lane.now does.now) self.new result }
+    {
+        let Some(lane) = self.lanes.find(lane) else {
+            return Err(Stop::Faulty(Cause::Number));
+        };
+        let cmd = self.lanes.step(lane, &self.classes, does)?;
+        self.push(number, Who::Lane(lane), cmd)
+    }
+
+    fn act(&mut self, number: u32, said: &Said<'_>) -> Result<(), Stop>
+        ensures { Turns (act_turn number self.old said.now) self.new result }
+    {
+        match said {
+            Said::Nothing => Ok(()),
+            Said::Class { name, parent } => self.add_class(number, name, parent),
+            Said::Full => self.push(number, Who::Gc, Cmd::GcFull),
+            Said::Lane { lane, does } => self.lane_line(number, lane, does),
+        }
+    }
+
+    /// Takes the line with this number, before the bytes after it. After an error nothing is said
+    /// of the context.
+    pub fn read(&mut self, number: u32, line: &[u8], after: &[u8]) -> Result<(), Stop>
+        ensures { Turns (turn number self.old line.now (input_lines after.now)) self.new result }
+    {
+        match read_line(self.in_header, line, after) {
+            Ok(said) => self.act(number, &said),
+            Err(cause) => Err(Stop::Faulty(cause)),
+        }
+    }
+
+    /// The script that the lines are.
+    pub fn into_script(self, alloc: Global) -> Result<Script, AllocError>
+        ensures { IfOk result (λ script. script ≡ script_from self) }
+    {
+        let vars = self.lanes.counts(alloc)?;
+        Ok(Script {
+            classes: self.classes,
+            fields: FieldNames::new(alloc),
+            lines: self.lines,
+            vars,
+            weaks: 0,
+        })
+    }
+}

@@ -1,0 +1,156 @@
+//! What an input says.
+ghost use Rattle.std.specs.Prelude.{◌≡◌, ◌∷◌, [], ◌++◌, map, string_bytes, OnOk};
+
+use crate::classes::ClassTable;
+use std::alloc::{AllocError, Global};
+use std::marker::Model;
+use world_model::ClassId;
+
+/// Who does what a line says.
+#[derive(Clone, Copy, Debug, PartialEq, Eq)]
+pub enum Who {
+    /// The lane with this number.
+    Lane(u32),
+    /// The collector.
+    Gc,
+}
+
+/// What a line says. Variables are numbers of the lane's object variables, from 0 in the order in
+/// which the lane's lines mention them first.
+#[derive(Clone, Copy, Debug, PartialEq, Eq)]
+pub enum Cmd {
+    /// The lane opens its frame.
+    Open,
+    /// The lane closes its frame, and its variables end.
+    Close,
+    /// The lane makes an object of a class, for which the variable then stands.
+    New { var: u32, class: ClassId },
+    /// The object of the variable becomes a root, or is one no longer.
+    Root { var: u32, on: bool },
+    /// The collector does a whole collection.
+    GcFull,
+}
+
+/// A line that does something.
+#[derive(Clone, Copy, Debug, PartialEq, Eq)]
+pub struct Line {
+    /// The number of the line in the input, from 1.
+    pub number: u32,
+    pub who: Who,
+    pub cmd: Cmd,
+}
+
+/// Lines in order. Contracts see them as their list.
+#[derive(Debug, Drop)]
+pub struct Lines {
+    items: Vec<Line>,
+}
+
+impl Model for Lines {
+    ghost use Rattle.std.specs.Prelude.{List};
+    ghost use Rattle.level_script.specs.declared.script.Line.{Line};
+
+    ghost Value = { List Line };
+
+    ghost view = { λ l. l.items.items };
+}
+
+impl Lines {
+    /// No line.
+    pub fn new(alloc: Global) -> Lines
+        ensures { result ≡ [] }
+    {
+        Lines {
+            items: Vec::new(alloc),
+        }
+    }
+
+    /// Appends a line.
+    pub fn push(&mut self, line: Line) -> Result<(), AllocError>
+        ensures { OnOk result (self.new ≡ self.old ++ line ∷ []) }
+    {
+        self.items.push(line)?;
+        Ok(())
+    }
+
+    pub fn as_slice(&self) -> &[Line]
+        ensures { result.now ≡ self.now }
+    {
+        self.items.as_slice()
+    }
+}
+
+/// How many object variables each lane has. Contracts see it as the list of the numbers.
+#[derive(Debug, Drop)]
+pub struct Counts {
+    items: Vec<u32>,
+}
+
+impl Model for Counts {
+    ghost use Rattle.std.specs.Prelude.{ℕ, List};
+
+    ghost Value = { List ℕ };
+
+    ghost view = { λ c. c.items.items };
+}
+
+impl Counts {
+    /// The numbers of a vector.
+    pub fn from_vec(items: Vec<u32>) -> Counts
+        ensures { result ≡ items.items }
+    {
+        Counts { items }
+    }
+
+    pub fn as_slice(&self) -> &[u32]
+        ensures { result.now ≡ self.now }
+    {
+        self.items.as_slice()
+    }
+}
+
+/// Names in order. Contracts see them as the list of their texts.
+#[derive(Debug, Drop)]
+pub struct FieldNames {
+    items: Vec<String>,
+}
+
+impl Model for FieldNames {
+    ghost use Rattle.std.specs.Prelude.{ℕ, List, map, string_bytes};
+
+    ghost Value = { List (List ℕ) };
+
+    ghost view = { λ n. map string_bytes n.items.items };
+}
+
+impl FieldNames {
+    /// No name.
+    pub fn new(alloc: Global) -> FieldNames
+        ensures { result ≡ [] }
+    {
+        FieldNames {
+            items: Vec::new(alloc),
+        }
+    }
+
+    pub fn as_slice(&self) -> &[String]
+        ensures { map string_bytes result.now ≡ self.now }
+    {
+        self.items.as_slice()
+    }
+}
+
+/// What an input says, with its names replaced by numbers.
+#[derive(Drop)]
+pub struct Script {
+    /// The classes that the header tells, and `Object`.
+    pub classes: ClassTable,
+    /// The names of fields, by number.
+    pub fields: FieldNames,
+    /// The lines that do something, in order. Those of the header do nothing of their own.
+    pub lines: Lines,
+    /// For each lane how many object variables it has.
+    pub vars: Counts,
+    /// How many weak variables there are.
+    pub weaks: u32,
+}

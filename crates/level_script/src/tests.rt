@@ -1,0 +1,220 @@
+//! Whole inputs, with the scripts and the faults that the language gives them.
+use crate::cause::{Cause, ParseErr, SchemaErr, ScriptErr};
+use crate::limits::Limits;
+use crate::reader::parse;
+use crate::script::{Cmd, Line, Script, Who};
+use std::alloc::Global;
+use world_model::ClassId;
+
+fn read(alloc: Global, bytes: &[u8]) -> Result<Script, ParseErr> {
+    let limits = Limits {
+        lanes: 4,
+        slots: 12,
+        strong: 64,
+        markers: 8,
+    };
+    parse(alloc, bytes, limits)
+}
+
+fn is_fault(alloc: Global, bytes: &[u8], line: u32, cause: Cause) -> bool {
+    match read(alloc, bytes) {
+        Err(ParseErr::Bad(fault)) => fault == ScriptErr { line, cause },
+        _ => false,
+    }
+}
+
+// The first input that has not this fault, at the line beside it.
+fn other<'a>(alloc: Global, inputs: &[(&'a str, u32)], cause: Cause) -> Option<&'a str> {
+    for (text, line) in inputs {
+        if !is_fault(alloc, text.as_bytes(), *line, cause) {
+            return Some(*text);
+        }
+    }
+    None
+}
+
+const SMALLEST: [Line; 5] = [
+    Line {
+        number: 2,
+        who: Who::Lane(0),
+        cmd: Cmd::Open,
+    },
+    Line {
+        number: 3,
+        who: Who::Lane(0),
+        cmd: Cmd::New {
+            var: 0,
+            class: ClassId(1),
+        },
+    },
+    Line {
+        number: 4,
+        who: Who::Lane(0),
+        cmd: Cmd::Root { var: 0, on: true },
+    },
+    Line {
+        number: 5,
+        who: Who::Lane(0),
+        cmd: Cmd::Close,
+    },
+    Line {
+        number: 6,
+        who: Who::Gc,
+        cmd: Cmd::GcFull,
+    },
+];
+
+fn is_smallest(alloc: Global, text: &str) -> bool {
+    match read(alloc, text.as_bytes()) {
+        Ok(script) => {
+            script.lines.as_slice() == SMALLEST.as_slice()
+                && script.vars.as_slice() == [1, 0, 0, 0].as_slice()
+                && script.classes.find_class("A") == Some(ClassId(1))
+                && script.classes.has_class(ClassId(1))
+                && script.classes.class_name(ClassId(1)) == "A"
+        }
+        Err(_) => false,
+    }
+}
+
+fn is_empty(alloc: Global, bytes: &[u8]) -> bool {
+    match read(alloc, bytes) {
+        Ok(script) => script.lines.as_slice().is_empty(),
+        Err(_) => false,
+    }
+}
+
+#[test]
+fn the_smallest_script(rt: HostRuntime) {
+    let alloc = rt.alloc();
+    for text in [
+        "class A Object\n0 open\n0 new a A\n0 root a on\n0 close\ngc full\n",
+        "class A Object\n0 open\n0 new a A\n0 root a on\n0 close\ngc full",
+        "class A Object\r\n0 open\r\n0 new a A\r\n0 root a on\r\n0 close\r\ngc full\r\n",
+        "\tclass  A\tObject \n000 open\n 0 new a A\n00 \troot a on\n0 close\t\ngc  full\n#\n\n # x",
+    ] {
+        assert!(rt; is_smallest(alloc, text));
+    }
+}
+
+#[test]
+fn empty_scripts(rt: HostRuntime) {
+    let alloc = rt.alloc();
+    for text in ["", "\n", "\r\n", "# none", "\n\n \t\n"] {
+        assert!(rt; is_empty(alloc, text.as_bytes()));
+    }
+}
+
+#[test]
+fn unknown_commands(rt: HostRuntime) {
+    let inputs = [
+        ("foo", 1),
+        ("-1 open", 1),
+        ("\n0\n", 2),
+        ("9", 1),
+        ("gc", 1),
+        ("gc open", 1),
+        ("0 class A Object", 1),
+        ("field A x int", 1),
+        ("0 open\nclass A Object", 2),
+        ("0 open\nclass A", 2),
+        ("0 open\n0 set a.f b", 2),
+        ("0 root a off", 1),
+        ("9 root a off", 1),
+        ("0 open\n0 new a Object", 2),
+        ("0 open\n0 new a Object\n\n0 root a on", 2),
+        ("0 open\n0 new a Object\n1 root a on", 2),
+        ("0 open\n0 new a Object\n0 root b on", 2),
+        ("9 new a B", 1),
+    ];
+    assert!(rt; other(rt.alloc(), &inputs, Cause::UnknownCommand).is_none());
+}
+
+#[test]
+fn faults_of_words(rt: HostRuntime) {
+    let inputs = [
+        ("class A", 1),
+        ("class A Object x", 1),
+        ("class 1A Object", 1),
+        ("class A- Object", 1),
+        (
+            "\nclass aaaaaaaaaaaaaaaaaaaaaaaaaaaaaaaaaaaaaaaaaaaaaaaaaaaaaaaaaaaaaaaaa Object",
+            2,
+        ),
+        ("0 open x", 1),
+        ("9 close x", 1),
+        ("gc full 1", 1),
+        ("0 new a", 1),
+        ("0 new none Object\n0 root none on", 1),
+        ("0 root a maybe", 1),
+        ("0 root none on", 1),
+    ];
+    assert!(rt; other(rt.alloc(), &inputs, Cause::Words).is_none());
+}
+
+#[test]
+fn faults_of_numbers_frames_and_names(rt: HostRuntime) {
+    let alloc = rt.alloc();
+    let numbers = [
+        ("4 open", 1),
+        ("18446744073709551616 open", 1),
+        ("000000000000000000000 open", 1),
+        ("0 open\n4 new a B\n4 root a on", 2),
+    ];
+    assert!(rt; other(alloc, &numbers, Cause::Number).is_none());
+    let frames = [
+        ("0 open\n0 open", 2),
+        ("00000000000000000000 open\n0 open", 2),
+        ("0 close", 1),
+        ("0 open\n1 close", 2),
+        ("0 root a on", 1),
+        ("0 new a B\n0 root a on", 1),
+    ];
+    assert!(rt; other(alloc, &frames, Cause::Frame).is_none());
+    let names = [
+        ("0 open\n0 root a on", 2),
+        ("0 open\n0 new a B\n0 root a on", 2),
+        (
+            "0 open\n0 new a Object\n0 root a on\n0 close\n0 open\n0 root a on",
+            6,
+        ),
+        (
+            "0 open\n1 open\n0 new a Object\n0 root a on\n1 root a on",
+            5,
+        ),
+    ];
+    assert!(rt; other(alloc, &names, Cause::UnknownName).is_none());
+}
+
+#[test]
+fn faults_of_classes(rt: HostRuntime) {
+    let alloc = rt.alloc();
+    let taken = Cause::Schema(SchemaErr::NameTaken(2));
+    assert!(rt; is_fault(alloc, b"\nclass A Object\nclass A B", 3, taken));
+    let taken = Cause::Schema(SchemaErr::NameTaken(0));
+    assert!(rt; is_fault(alloc, b"class Object Object", 1, taken));
+    let inputs = [
+        ("class A B", 1),
+        ("class A A", 1),
+        ("class none Object\nclass A b", 2),
+    ];
+    assert!(rt; other(alloc, &inputs, Cause::Schema(SchemaErr::NoParent)).is_none());
+}
+
+#[test]
+fn bytes_that_are_no_text(rt: HostRuntime) {
+    let alloc = rt.alloc();
+    assert!(rt; is_fault(alloc, b"# \xff\n", 1, Cause::Utf8));
+    assert!(rt; is_fault(alloc, b"0 open\nfoo \xc3\n", 2, Cause::Utf8));
+}
+
+#[test]
+fn inputs_that_are_too_long(rt: HostRuntime) {
+    let alloc = rt.alloc();
+    let many = vec![in alloc; b'\n'; 200_001].expect(&rt, "memory");
+    assert!(rt; is_fault(alloc, &many, 200_001, Cause::TooLong));
+    assert!(rt; is_empty(alloc, &many[1..]));
+    let long = vec![in alloc; b' '; 16_777_217].expect(&rt, "memory");
+    assert!(rt; is_fault(alloc, &long, 0, Cause::TooLong));
+    assert!(rt; is_empty(alloc, &long[1..]));
+}
