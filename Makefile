@@ -1,4 +1,28 @@
-.PHONY: test
+.PHONY: play try test
+
+SCRIPT = examples/first.script
+PROGRAM = crates/worldrun/out/worldrun
+
+# Plays a script on the proved program.
+play: $(PROGRAM)
+	@$(PROGRAM) play < $(SCRIPT)
+
+# Proves every crate, from the lowest on, and builds the program.
+$(PROGRAM): crates.txt $(shell find crates -path '*/out' -prune -o -name '*.rt' -print -o -name '*.antt' -print)
+	@echo 'The first build proves every crate. That takes about 20 minutes on four processors.' >&2
+	@for crate in world_model play_io level_script heap_plain world_play; do \
+	    echo "proving $$crate" >&2; \
+	    (cd crates/$$crate && rt lib) > crates/build.log 2>&1 || { cat crates/build.log >&2; exit 1; }; \
+	done
+	@echo 'proving worldrun' >&2
+	@(cd crates/worldrun && rt run -- play < /dev/null) > crates/build.log 2>&1 || { cat crates/build.log >&2; exit 1; }
+	@rm -f crates/build.log
+	@touch $(PROGRAM)
+
+# Plays a script at once, on an unproved build.
+try:
+	@echo 'This is an unproved build.' >&2
+	@cd crates/worldrun && rt try -- play < $(abspath $(SCRIPT))
 
 # Proves everything, tries the must-fail edits and runs the tests: the gate, as it runs before a change lands.
 test:

@@ -1,0 +1,60 @@
+-- Ranges of a list that are written, one place after the other.
+use Rattle.std.proofs.Common.{◌≡◌, ◌≢◌, ℕ, ◌+◌, ◌<◌, ◌≤◌, ◌⊎◌, inl, inr, ◌-◌, zero, suc, List, [], ◌∷◌, length, get_or, drop, refl, sym, ap, ◌∙◌, subst, arith}
+use Rattle.std.proofs.Math.ListN.{set}
+use Rattle.std.proofs.Math.Seq.{drop-nil}
+use Rattle.std.proofs.Math.Logic.{dite}
+use Rattle.std.proofs.Math.Decide.{ℕ_discrete}
+use Rattle.std.proofs.lemmas.List.{length-set, get_or-set_same, get_or-set_other}
+use Rattle.heap_plain.specs.Filling.{Filled}
+use Rattle.heap_plain.specs.Parts.{Lists}
+
+-- nothing is written yet
+pub Filled-none : {A : Type 0} (xs : List A) (from : ℕ) (f : ℕ → A) → Filled xs xs from 0 f
+Filled-none xs from f = record { len = refl; inside = λ k d below. absurd (omega arith); outside = λ i d h. refl }
+
+-- one more place is written
+pub Filled-more : {A : Type 0} (old new : List A) (from k at : ℕ) (f : ℕ → A) (v : A) → Filled old new from k f → at ≡ from + k → from + k < length old → v ≡ f k → Filled old (set new at v) from (k + 1) f
+Filled-more old new from k at f v was here below same = record {
+  len = length-set new at v ∙ was.len;
+  inside = λ j d less. dite (ℕ_discrete j k)
+      (λ (e : j ≡ k). subst (λ i. get_or (set new at v) i d ≡ f j) (here ∙ ap (λ i. from + i) (sym e)) (get_or-set_same new at v d (omega (arith, was.len)) ∙ same ∙ ap f (sym e)))
+      (λ (ne : j ≢ k). get_or-set_other new at (from + j) v d (λ e. ne (omega arith)) ∙ was.inside j d (omega arith));
+  outside = λ i d h. get_or-set_other new at i v d (apart i h) ∙ was.outside i d (less i h);
+}
+  where
+    apart : (i : ℕ) → (i < from) ⊎ (from + (k + 1) ≤ i) → i ≢ at
+    apart i (inl h) = λ e. absurd (omega arith)
+    apart i (inr h) = λ e. absurd (omega arith)
+
+    less : (i : ℕ) → (i < from) ⊎ (from + (k + 1) ≤ i) → (i < from) ⊎ (from + k ≤ i)
+    less i (inl h) = inl h
+    less i (inr h) = inr (omega arith)
+
+-- places from the start on
+pub from_start : {A : Type 0} {old new : List A} {count : ℕ} {f : ℕ → A} → Filled old new 0 count f → (k : ℕ) (d : A) → k < count → get_or new k d ≡ f k
+from_start {new} {f} h k d below = let none : 0 + k ≡ k = omega arith in subst (λ (i : ℕ). get_or new i d ≡ f k) none (h.inside k d below)
+
+-- a write at i, where the function changes at i alone
+pub Lists-set : {A : Type 0} (xs : List A) (n i : ℕ) (v : A) (f g : ℕ → A) → Lists xs n f → i < n → g i ≡ v → ((k : ℕ) → k ≢ i → g k ≡ f k) → Lists (set xs i v) n g
+Lists-set xs n i v f g was h here else = record {
+  len = length-set xs i v ∙ was.len;
+  each = λ k d below. dite (ℕ_discrete k i)
+      (λ (e : k ≡ i). subst (λ j. get_or (set xs i v) j d ≡ g j) (sym e) (get_or-set_same xs i v d (subst (λ m. i < m) (sym was.len) h) ∙ sym here))
+      (λ (ne : k ≢ i). get_or-set_other xs i k v d ne ∙ was.each k d below ∙ sym (else k ne));
+}
+
+-- the function changes nowhere
+pub Lists-same : {A : Type 0} (xs : List A) (n : ℕ) (f g : ℕ → A) → Lists xs n f → ((k : ℕ) → g k ≡ f k) → Lists xs n g
+Lists-same xs n f g was same = record { len = was.len; each = λ k d below. was.each k d below ∙ sym (same k) }
+
+-- drops in a row
+pub drop_more : {A : Type 0} (n m : ℕ) (xs : List A) → drop (n + m) xs ≡ drop m (drop n xs)
+drop_more zero m xs = let e : 0 + m ≡ m = omega arith in rw e refl
+drop_more (suc n) m [] = drop-nil (suc n + m) ∙ sym (drop-nil m)
+drop_more (suc n) m (x ∷ xs) = let e : suc n + m ≡ suc (n + m) = omega arith in rw e (drop_more n m xs)
+
+-- what is the same behind n is the same behind more
+pub drop_same : {A : Type 0} (n m : ℕ) (xs ys : List A) → n ≤ m → drop n xs ≡ drop n ys → drop m xs ≡ drop m ys
+drop_same n m xs ys le e =
+    let sum : n + (m - n) ≡ m = omega arith in
+    subst (λ (k : ℕ). drop k xs ≡ drop k ys) sum (drop_more n (m - n) xs ∙ ap (λ (zs : List _). drop (m - n) zs) e ∙ sym (drop_more n (m - n) ys))

@@ -1,0 +1,176 @@
+-- Marking a unit, and the places of the worklist.
+use Rattle.std.proofs.Common.{◌≡◌, ◌≢◌, ℕ, ◌+◌, ◌<◌, ◌≤◌, ◌||◌, ◌&&◌, not, refl, sym, subst, ap, ◌∙◌, inl, inr, zero, suc, arith, Bool, true, false, List, [], ◌∷◌, ◌++◌, length, get_or, take, drop, ◌⊎◌, Option, Some}
+use Rattle.std.specs.List.{list_any}
+use Rattle.std.proofs.Math.ListN.{set}
+use Rattle.std.proofs.Math.Logic.{dite}
+use Rattle.std.proofs.Math.Decide.{ℕ_discrete}
+use Rattle.std.proofs.lemmas.Bool.{and_from}
+use Rattle.std.proofs.lemmas.List.{length-set, get_or-set_same, get_or-set_other, take_more_set, drop-append-le, length-take-le}
+use Rattle.world_model.specs.Sizes.{Sizes, item_count}
+use Rattle.world_model.specs.NameLists.{same_name, has}
+use Rattle.world_model.proofs.ListFacts.{Among, among_append, and_true, or_true, or_right}
+use Rattle.world_model.proofs.NameFacts.{same_name_true, same_name_refl}
+use Rattle.world_model.proofs.Units.{AreApart}
+use Rattle.heap_plain.specs.Types.{Name, Kind}
+use Rattle.heap_plain.specs.declared.life.Life.{Life}
+use Rattle.heap_plain.specs.Parts.{name_at}
+use Rattle.heap_plain.specs.Sections.{Distinct, NamesShow, UnitsShow, StandsAt, WorkShows, MarksShow, pushed_of, grey_of}
+use Rattle.heap_plain.proofs.WorldFacts.{has_among, among_has, among_left, among_right, test_among, among_test, any_same, no_longer}
+use Rattle.heap_plain.proofs.Standing.{one_unit, head_of, bit_below}
+
+-- ---- lists without repetition
+
+pub distinct_snoc : {A : Type 0} (xs : List A) (x : A) → Distinct xs → (Among xs x → ⊥) → Distinct (xs ++ x ∷ [])
+distinct_snoc [] x d out = ((λ h. h), tt)
+distinct_snoc (y ∷ xs) x d out = ((λ h. both (among_append xs (x ∷ []) y h)), distinct_snoc xs x d.1 (λ h. out (inr h)))
+  where
+    both : Among xs y ⊎ ((x ≡ y) ⊎ ⊥) → ⊥
+    both (inl a) = d.0 a
+    both (inr (inl e)) = out (inl (sym e))
+    both (inr (inr e)) = e
+
+pub distinct_drop : {A : Type 0} (n : ℕ) (xs : List A) → Distinct xs → Distinct (drop n xs)
+distinct_drop zero xs d = d
+distinct_drop (suc n) [] d = tt
+distinct_drop (suc n) (x ∷ xs) d = distinct_drop n xs d.1
+
+-- the numbers below n
+below : ℕ → List ℕ
+below zero = []
+below (suc n) = n ∷ below n
+
+length-below : (n : ℕ) → length (below n) ≡ n
+unfolding below
+length-below zero = refl
+length-below (suc n) = let t = length-below n in omega arith
+
+among_below : (n k : ℕ) → k < n → Among (below n) k
+unfolding below
+among_below zero k h = absurd (omega arith)
+among_below (suc n) k h = dite (ℕ_discrete n k) (λ (e : n ≡ k). inl e) (λ (ne : n ≢ k). inr (among_below n k (omega arith)))
+
+-- numbers below n, none twice, are at most n
+pub few_below : (n : ℕ) (xs : List ℕ) → Distinct xs → ((k : ℕ) → Among xs k → k < n) → length xs ≤ n
+few_below n xs d less = let t = no_longer xs (below n) d (λ k h. among_below n k (less k h)) in omega (arith, length-below n)
+
+-- ---- one unit
+
+module _ {z : Sizes} {names : List (Option Name)} {made : List ℕ} {kinds : ℕ → List Kind} {firsts sizes : List ℕ} {lives : List Life} {units : List (List Name)}
+    (ns : NamesShow z names made kinds) (us : UnitsShow z names firsts sizes lives units) (apart : AreApart kinds units) where
+  abbrev Stands : ℕ → List Name → Type 0
+  Stands head u = StandsAt names firsts sizes lives units head u
+
+  -- a name of one unit is in no other
+  pub not_in : (head other : ℕ) (u v : List Name) (n m : Name) → Stands head u → Stands other v → has u n ≡ true → other ≢ head → Among v m → same_name m n ≡ false
+  not_in head other u v n m t q e ne a = go (same_name m n) refl
+    where
+      go : (b : Bool) → same_name m n ≡ b → b ≡ false
+      go false is = refl
+      go true is =
+          let at_n : Among v n = subst (λ (x : Name). Among v x) (same_name_true m n is) a in
+          let j = t.inside n e in
+          absurd (ne (sym (head_of ns other v q j.0 n j.1.name (among_has v n at_n)) ∙ head_of ns head u t j.0 n j.1.name e))
+
+  kept_same : (head other : ℕ) (u v : List Name) (n : Name) (kept : List Name) → Stands head u → Stands other v → has u n ≡ true → other ≢ head → list_any (has kept) v ≡ list_any (has (n ∷ kept)) v
+  kept_same head other u v n kept t q e ne = any_same (has kept) (has (n ∷ kept)) v (λ m a. let f = not_in head other u v n m t q e ne a in rw f refl)
+
+  marked_same : (head other : ℕ) (u v : List Name) (n : Name) (kept fresh : List Name) → Stands head u → Stands other v → has u n ≡ true → other ≢ head
+      → list_any (λ m. has kept m || has fresh m) v ≡ list_any (λ m. has (n ∷ kept) m || has fresh m) v
+  marked_same head other u v n kept fresh t q e ne = any_same _ _ v (λ m a. let f = not_in head other u v n m t q e ne a in rw f refl)
+
+  -- where a member is kept, the unit is marked, and it is kept
+  kept_now : (u kept fresh : List Name) (n : Name) → has u n ≡ true → list_any (λ m. has (n ∷ kept) m || has fresh m) u ≡ true
+  kept_now u kept fresh n e = among_test (λ m. has (n ∷ kept) m || has fresh m) u n (has_among u n e) (let t = same_name_refl n in rw t refl)
+
+  kept_there : (u kept : List Name) (n : Name) → has u n ≡ true → list_any (has (n ∷ kept)) u ≡ true
+  kept_there u kept n e = among_test (has (n ∷ kept)) u n (has_among u n e) (let t = same_name_refl n in rw t refl)
+
+  kept_still : (u kept : List Name) (n : Name) → list_any (has kept) u ≡ true → list_any (has (n ∷ kept)) u ≡ true
+  kept_still u kept n e = let f = test_among (has kept) u e in among_test (has (n ∷ kept)) u f.0 f.1 (or_right (same_name f.0 n) _ f.2)
+
+  -- a white unit is marked
+  pub mark_one : {marked : List Bool} {listed grey : List ℕ} {kept fresh scanned : List Name} (head : ℕ) (u : List Name) (n : Name) → Stands head u → has u n ≡ true → get_or marked head false ≡ false → head < length marked
+      → MarksShow names firsts sizes lives units marked listed grey kept fresh scanned
+      → MarksShow names firsts sizes lives units (set marked head true) (listed ++ head ∷ []) (grey ++ head ∷ []) (n ∷ kept) fresh scanned
+  mark_one {marked} {listed} {grey} {kept} {fresh} {scanned} head u n t e white inside k = record {
+    bits = bits;
+    listed_marked = λ other a. listed_marked other (among_append listed (head ∷ []) other a);
+    distinct = distinct_snoc listed head k.distinct (λ a. let black = k.listed_marked head a in absurd (cc));
+    grey_units = λ other a. grey_units other (among_append grey (head ∷ []) other a);
+    all_grey = all_grey;
+    black_marked = λ other v q s. still other (k.black_marked other v q s);
+    known = λ m h. known m (or_true _ _ h);
+  }
+    where
+      set_now : (other : ℕ) → other ≡ head → get_or (set marked head true) other false ≡ true
+      set_now other here = ap (λ (j : ℕ). get_or (set marked head true) j false) here ∙ get_or-set_same marked head true false inside
+
+      still : (other : ℕ) → get_or marked other false ≡ true → get_or (set marked head true) other false ≡ true
+      still other is = dite (ℕ_discrete other head) (λ (here : other ≡ head). set_now other here) (λ (ne : other ≢ head). get_or-set_other marked head other true false ne ∙ is)
+
+      bits : (other : ℕ) (v : List Name) → Stands other v → get_or (set marked head true) other false ≡ list_any (λ m. has (n ∷ kept) m || has fresh m) v
+      bits other v q = dite (ℕ_discrete other head)
+          (λ (here : other ≡ head).
+          let same : u ≡ v = one_unit apart us head u v t (subst (λ (x : ℕ). Stands x v) here q) in
+          set_now other here ∙ sym (kept_now v kept fresh n (subst (λ (x : List Name). has x n ≡ true) same e)))
+          (λ (ne : other ≢ head). get_or-set_other marked head other true false ne ∙ k.bits other v q ∙ marked_same head other u v n kept fresh t q e ne)
+
+      listed_marked : (other : ℕ) → Among listed other ⊎ ((head ≡ other) ⊎ ⊥) → get_or (set marked head true) other false ≡ true
+      listed_marked other (inl a) = still other (k.listed_marked other a)
+      listed_marked other (inr (inl here)) = set_now other (sym here)
+      listed_marked other (inr (inr a)) = absurd a
+
+      not_scanned : list_any (has scanned) u ≡ false
+      not_scanned = go (list_any (has scanned) u) refl
+        where
+          go : (b : Bool) → list_any (has scanned) u ≡ b → b ≡ false
+          go false is = refl
+          go true is = absurd (let black = k.black_marked head u t is in cc)
+
+      grey_units : (other : ℕ) → Among grey other ⊎ ((head ≡ other) ⊎ ⊥) → (v : List Name) × Stands other v × ((list_any (has (n ∷ kept)) v && not (list_any (has scanned) v)) ≡ true)
+      grey_units other (inl a) = let r = k.grey_units other a in let parts = and_true _ _ r.2 in (r.0, r.1, and_from _ _ (kept_still r.0 kept n parts.0) parts.1)
+      grey_units other (inr (inl here)) = (u, subst (λ (x : ℕ). Stands x u) here t, and_from _ _ (kept_there u kept n e) (ap not not_scanned))
+      grey_units other (inr (inr a)) = absurd a
+
+      all_grey : (other : ℕ) (v : List Name) → Stands other v → (list_any (has (n ∷ kept)) v && not (list_any (has scanned) v)) ≡ true → Among (grey ++ head ∷ []) other
+      all_grey other v q is = dite (ℕ_discrete head other)
+          (λ (here : head ≡ other). among_right grey (head ∷ []) other (inl here))
+          (λ (ne : head ≢ other). among_left grey (head ∷ []) other (k.all_grey other v q
+          (let parts = and_true _ _ is in and_from _ _ (kept_same head other u v n kept t q e (λ x. ne (sym x)) ∙ parts.0) parts.1)))
+
+      known : (m : Name) → (same_name m n ≡ true) ⊎ (has kept m ≡ true) → (i : ℕ) × (name_at names i ≡ Some m)
+      known m (inl same) = let j = t.inside n e in (j.0, j.1.name ∙ ap (λ (x : Name). Some x) (sym (same_name_true m n same)))
+      known m (inr h) = k.known m h
+
+-- ---- places of the worklist
+
+-- a white head has room on it
+pub work_room : {z : Sizes} {names : List (Option Name)} {firsts sizes : List ℕ} {lives : List Life} {units : List (List Name)} {marked : List Bool} {work : List ℕ} {scanned pushed : ℕ} {kept fresh black : List Name} (head : ℕ)
+    → WorkShows z marked work scanned pushed → MarksShow names firsts sizes lives units marked (pushed_of work pushed) (grey_of work scanned pushed) kept fresh black → head < item_count z → get_or marked head false ≡ false → pushed < item_count z
+work_room {z} {marked} {work} {pushed} head ws k inside white =
+    let t = few_below (item_count z) (head ∷ pushed_of work pushed) ((λ a. let black_bit = k.listed_marked head a in absurd (cc)), k.distinct) small in
+    let len : length (pushed_of work pushed) ≡ pushed = length-take-le pushed work (omega (arith, ws.few, ws.work_len)) in
+    omega arith
+  where
+    small : (i : ℕ) → (head ≡ i) ⊎ Among (pushed_of work pushed) i → i < item_count z
+    small i (inl e) = omega arith
+    small i (inr a) = let b = bit_below marked i (k.listed_marked i a) in omega (arith, ws.marked_len)
+
+pub work_push : {z : Sizes} {marked : List Bool} {work : List ℕ} {scanned pushed : ℕ} (head : ℕ) → WorkShows z marked work scanned pushed → head < item_count z → pushed < item_count z → WorkShows z (set marked head true) (set work pushed head) scanned (pushed + 1)
+work_push {z} {marked} {work} {scanned} {pushed} head ws inside room = record {
+  marked_len = length-set marked head true ∙ ws.marked_len;
+  work_len = length-set work pushed head ∙ ws.work_len;
+  order = omega (arith, ws.order);
+  few = omega arith;
+  entries = λ k h. dite (ℕ_discrete k pushed)
+      (λ (e : k ≡ pushed). let t : get_or (set work pushed head) k 0 ≡ head = ap (λ (j : ℕ). get_or (set work pushed head) j 0) e ∙ get_or-set_same work pushed head 0 (omega (arith, ws.work_len)) in omega arith)
+      (λ (ne : k ≢ pushed). let t = get_or-set_other work pushed k head 0 ne in omega (arith, ws.entries k (omega arith)));
+}
+
+pub pushed_push : (work : List ℕ) (pushed head : ℕ) → pushed < length work → pushed_of (set work pushed head) (pushed + 1) ≡ pushed_of work pushed ++ head ∷ []
+pushed_push work pushed head h = take_more_set work pushed head h
+
+pub grey_push : (work : List ℕ) (scanned pushed head : ℕ) → pushed < length work → scanned ≤ pushed → grey_of (set work pushed head) scanned (pushed + 1) ≡ grey_of work scanned pushed ++ head ∷ []
+grey_push work scanned pushed head h order =
+    ap (λ (xs : List ℕ). drop scanned xs) (take_more_set work pushed head h)
+    ∙ drop-append-le scanned (take pushed work) (head ∷ []) (omega (arith, length-take-le pushed work (omega arith)))

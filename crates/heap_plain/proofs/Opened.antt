@@ -1,0 +1,78 @@
+-- The open frames and slices after one call.
+use Rattle.std.proofs.Common.{◌≡◌, ℕ, refl, ap, ◌∙◌, inl, inr, Bool, true, false, not, List, [], ◌∷◌, map, filter, Result, Ok, Err}
+use Rattle.std.specs.List.{list_all}
+use Rattle.world_model.specs.Sizes.{Sizes}
+use Rattle.world_model.specs.NameLists.{same_pass}
+use Rattle.world_model.specs.World.{World}
+use Rattle.world_model.specs.State.{State, Marks}
+use Rattle.world_model.specs.Next.{next_world, next, run}
+use Rattle.world_model.specs.Histories.{after, state_of}
+use Rattle.world_model.specs.Calls.{by, Appends, CallOf}
+use Rattle.world_model.specs.Engines.{act_of_create}
+use Rattle.world_model.proofs.ListFacts.{and_true}
+use Rattle.heap_plain.specs.Types.{Name, Kind, Pass, Lane, Phase, Begin, Commit, CreateErr, Act, Entry}
+use Rattle.heap_plain.specs.Types.act
+use Rattle.heap_plain.specs.Types.begin
+use Rattle.heap_plain.specs.Types.commit
+use Rattle.heap_plain.specs.Types.create
+use Rattle.heap_plain.proofs.WorldFacts.{state_more}
+
+-- the acts that open or close nothing
+abbrev pub is_inside : Act → Bool
+is_inside (act.FrameOpen phase) = false
+is_inside act.FrameClose = false
+is_inside act.SliceOpen = false
+is_inside (act.Slice budget reply) = false
+is_inside _ = true
+
+next_opened : (m : Marks) (w : World) (p : Pass) (a : Act) → is_inside a ≡ true → (next_world m w p a).opened ≡ w.opened
+next_opened m w p (act.FrameOpen phase) e = absurd cc
+next_opened m w p act.FrameClose e = absurd cc
+next_opened m w p act.SliceOpen e = absurd cc
+next_opened m w p (act.Slice budget reply) e = absurd cc
+next_opened m w p (act.BeginGc begin.Started) e = refl
+next_opened m w p (act.CommitGc commit.Done) e = refl
+next_opened m w p _ e = refl
+
+pub run_opened : (s : State) (p : Pass) (acts : List Act) → list_all is_inside acts ≡ true → (run s (by p acts)).world.opened ≡ s.world.opened
+run_opened s p [] e = refl
+run_opened s p (a ∷ acts) e = let parts = and_true (is_inside a) _ e in run_opened (next s (record { pass = p; act = a })) p acts parts.1 ∙ next_opened s.marks s.world p a parts.0
+
+-- the history after the call opens what the entries leave open
+by_entries : {z : Sizes} {old new : List Entry} {p : Pass} {a : Act} → (h : Appends z old new p a) → (after new).opened ≡ (run (state_of old) (by p h.acts)).world.opened
+by_entries {old} {p} h = ap (λ (es : List Entry). (after es).opened) h.grown ∙ ap (λ (s : State). s.world.opened) (state_more old (by p h.acts))
+
+pub opened_by_frame : {z : Sizes} {old new : List Entry} {lane : ℕ} {phase : Phase} → Appends z old new (Lane lane) (act.FrameOpen phase) → (after new).opened ≡ Lane lane ∷ (after old).opened
+opened_by_frame {old} {lane} h = by_entries h ∙ ap (λ (acts : List Act). (run (state_of old) (by (Lane lane) acts)).world.opened) h.call
+
+pub closed_by_frame : {z : Sizes} {old new : List Entry} {lane : ℕ} → Appends z old new (Lane lane) act.FrameClose → (after new).opened ≡ filter (λ q. not (same_pass (Lane lane) q)) (after old).opened
+closed_by_frame {old} {lane} h = by_entries h ∙ ap (λ (acts : List Act). (run (state_of old) (by (Lane lane) acts)).world.opened) h.call
+
+kept_inside : (of : List Name) → list_all is_inside (map act.Kept of) ≡ true
+kept_inside [] = refl
+kept_inside (n ∷ of) = kept_inside of
+
+-- an answer of the collector, a root or a creation opens nothing
+pub same_by_begin : {z : Sizes} {old new : List Entry} {p : Pass} {reply : Begin} → Appends z old new p (act.BeginGc reply) → (after new).opened ≡ (after old).opened
+same_by_begin {old} {p} {reply} h = by_entries h ∙ run_opened (state_of old) p h.acts (go reply h.acts h.call)
+  where
+    go : (r : Begin) (acts : List Act) → CallOf (state_of old) p (act.BeginGc r) acts → list_all is_inside acts ≡ true
+    go begin.Started acts c = ap (list_all is_inside) c.are ∙ kept_inside c.of
+    go (begin.Running at) acts c = ap (list_all is_inside) c
+    go (begin.Purging n) acts c = ap (list_all is_inside) c
+    go (begin.Frames n) acts c = ap (list_all is_inside) c
+
+pub same_by_commit : {z : Sizes} {old new : List Entry} {p : Pass} {reply : Commit} → Appends z old new p (act.CommitGc reply) → (after new).opened ≡ (after old).opened
+same_by_commit {old} {p} h = by_entries h ∙ run_opened (state_of old) p h.acts (ap (list_all is_inside) h.call.are)
+
+pub same_by_root : {z : Sizes} {old new : List Entry} {p : Pass} {at : Name} {on was : Bool} → Appends z old new p (act.Root at on was) → (after new).opened ≡ (after old).opened
+same_by_root {old} {p} {at} {on} {was} h = by_entries h ∙ run_opened (state_of old) p h.acts (go h.acts h.call)
+  where
+    go : (acts : List Act) → CallOf (state_of old) p (act.Root at on was) acts → list_all is_inside acts ≡ true
+    go acts (inl e) = ap (list_all is_inside) e
+    go acts (inr e) = ap (list_all is_inside) e.1
+
+pub same_by_create : {z : Sizes} {old new : List Entry} {p : Pass} {T : Type 0} (lane : ℕ) (kinds : List Kind) (result : Result T CreateErr) → Appends z old new p (act_of_create (after old) lane kinds result) → (after new).opened ≡ (after old).opened
+same_by_create {old} {p} lane kinds (Ok made) h = by_entries h ∙ run_opened (state_of old) p h.acts (ap (list_all is_inside) h.call)
+same_by_create {old} {p} lane kinds (Err (create.Full free)) h = by_entries h ∙ run_opened (state_of old) p h.acts (ap (list_all is_inside) h.call)
+same_by_create {old} {p} lane kinds (Err (create.NamesSpent left)) h = by_entries h ∙ run_opened (state_of old) p h.acts (ap (list_all is_inside) h.call)

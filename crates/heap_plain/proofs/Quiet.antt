@@ -1,0 +1,35 @@
+-- Entries that change nothing that the vectors show.
+use Rattle.std.proofs.Common.{◌≡◌, ℕ, List, None}
+use Rattle.world_model.specs.Sizes.{Sizes}
+use Rattle.world_model.specs.World.{World}
+use Rattle.world_model.specs.State.{State, Slicing, Collecting}
+use Rattle.heap_plain.specs.Parts.{Parts}
+use Rattle.heap_plain.specs.Plain.{Shows}
+
+-- the state with other moments, slices and collector
+abbrev pub quiet_state : State → List World → (ℕ → Slicing) → Collecting → State
+quiet_state s moments slices collector = record {
+  world = s.world;
+  marks = record { kept = s.marks.kept; fresh = s.marks.fresh; scanned = s.marks.scanned; moments = moments };
+  frames = s.frames;
+  slices = slices;
+  collector = collector;
+}
+
+pub quiet_shows : (z : Sizes) (p : Parts) (s : State) (moments : List World) (slices : ℕ → Slicing) (collector : Collecting) → collector.agreed ≡ None → Shows z p s → Shows z p (quiet_state s moments slices collector)
+quiet_shows z p s moments slices collector agreed h = record {
+  phase = h.phase;
+  frames = h.frames;
+  names = h.names;
+  units = h.units;
+  distinct = h.distinct;
+  roots = h.roots;
+  held = h.held;
+  work = h.work;
+  idle = h.idle;
+  marks = h.marks;
+  roots_marked = h.roots_marked;
+  removed = h.removed;
+  room = h.room;
+  none_agreed = agreed;
+}

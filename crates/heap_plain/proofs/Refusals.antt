@@ -1,0 +1,87 @@
+-- Refused creations, and acts of a lane that give it nothing.
+use Rattle.std.proofs.Common.{◌≡◌, ℕ, ◌-◌, ◌<◌, refl, subst, arith, true, false, List, [], ◌∷◌, ◌++◌, Option, None}
+use Rattle.world_model.specs.Sizes.{Sizes}
+use Rattle.std.specs.List.{list_any}
+use Rattle.world_model.specs.NameLists.{has, set_at, same_pass}
+use Rattle.world_model.specs.World.{is_open, made}
+use Rattle.world_model.specs.State.{Frame}
+use Rattle.world_model.specs.Histories.{after, state_of}
+use Rattle.world_model.specs.Calls.{CallOf}
+use Rattle.world_model.specs.Engines.{act_of_refusal}
+use Rattle.heap_plain.specs.Types.{Name, Ref, Lane, CreateErr, Pass, Entry}
+use Rattle.heap_plain.specs.Types.act
+use Rattle.heap_plain.specs.Types.create
+use Rattle.heap_plain.specs.declared.life.Life.{Life}
+use Rattle.heap_plain.specs.Parts.{Parts, Holds}
+use Rattle.heap_plain.specs.Creation.{Refuses}
+use Rattle.heap_plain.specs.Sections.{HeldShow, LivesAt}
+use Rattle.heap_plain.specs.Plain.{IsPlain}
+use Rattle.heap_plain.proofs.WorldFacts.{at_set}
+use Rattle.heap_plain.proofs.Entries.{plain_more, holds_more}
+
+-- the frame of a lane that was given nothing
+abbrev pub unchanged : Frame → Frame
+unchanged f = record f { held = f.held; owed = None }
+
+pub held_same : (names : List (Option Name)) (lives : List Life) (opened : List Pass) (frames : ℕ → Frame) (l : ℕ) → HeldShow names lives opened frames → HeldShow names lives opened (set_at frames l (unchanged (frames l)))
+held_same names lives opened frames l s = record {
+  living = λ k n. at_set (λ (f : Frame). has f.held n ≡ true → (i : ℕ) × LivesAt names lives i n) frames l k (unchanged (frames l)) (λ e. s.living l n) (λ ne. s.living k n);
+  closed = λ k h. at_set (λ (f : Frame). f.held ≡ []) frames l k (unchanged (frames l)) (λ e. s.closed l (subst (λ (x : ℕ). list_any (same_pass (Lane x)) opened ≡ false) e h)) (λ ne. s.closed k h);
+  paid = λ k. at_set (λ (f : Frame). f.owed ≡ None) frames l k (unchanged (frames l)) (λ e. refl) (λ ne. s.paid k);
+}
+
+pub keeps_held : (frames : ℕ → Frame) (l k : ℕ) (n : Name) → has (frames k).held n ≡ true → has (set_at frames l (unchanged (frames l)) k).held n ≡ true
+keeps_held frames l k n held = at_set (λ (f : Frame). has f.held n ≡ true) frames l k (unchanged (frames l)) (λ e. subst (λ (x : ℕ). has (frames x).held n ≡ true) e held) (λ ne. held)
+
+pub refuses : (z : Sizes) (p : Parts) (h : List Entry) (l m asked spare room : ℕ) (e : CreateErr) → IsPlain z p h → l < z.lanes → is_open (after h) (Lane l) ≡ true → m ≡ made (after h) l
+    → spare ≡ z.names - m → room ≡ z.quota - m → Refuses asked spare room e → IsPlain z p (h ++ record { pass = Lane l; act = act_of_refusal asked e } ∷ [])
+refuses z p h l m asked spare room (create.NamesSpent left) was lane opened is by_names by_quota d =
+    let s = was.shows in
+    plain_more z p p h (record { pass = Lane l; act = act.NamesSpent asked left } ∷ []) was
+    (record { in_range = lane; frame = record { opened = opened; continues = rw (s.held.paid l) tt }; may = record { rest = omega (arith, d.0); short = d.1 } }, tt)
+    (record {
+      phase = s.phase;
+      frames = s.frames;
+      names = s.names;
+      units = s.units;
+      distinct = s.distinct;
+      roots = s.roots;
+      held = held_same p.names p.lives _ _ l s.held;
+      work = s.work;
+      idle = s.idle;
+      marks = s.marks;
+      roots_marked = s.roots_marked;
+      removed = s.removed;
+      room = s.room;
+      none_agreed = s.none_agreed;
+    })
+refuses z p h l m asked spare room (create.Full free) was lane opened is by_names by_quota d =
+    let s = was.shows in
+    plain_more z p p h (record { pass = Lane l; act = act.Full asked free } ∷ []) was
+    (record { in_range = lane; frame = record { opened = opened; continues = rw (s.held.paid l) tt }; may = record { names = omega (arith, d.0); rest = omega (arith, d.1, s.room l); short = d.2 } }, tt)
+    (record {
+      phase = s.phase;
+      frames = s.frames;
+      names = s.names;
+      units = s.units;
+      distinct = s.distinct;
+      roots = s.roots;
+      held = held_same p.names p.lives _ _ l s.held;
+      work = s.work;
+      idle = s.idle;
+      marks = s.marks;
+      roots_marked = s.roots_marked;
+      removed = s.removed;
+      room = s.room;
+      none_agreed = s.none_agreed;
+    })
+
+pub refuses_held : (h : List Entry) (names : List (Option Name)) (l asked : ℕ) (e : CreateErr) (k : ℕ) (r : Ref) → Holds record { history = h; names = names } k r
+    → Holds record { history = h ++ record { pass = Lane l; act = act_of_refusal asked e } ∷ []; names = names } k r
+refuses_held h names l asked (create.NamesSpent left) k r = holds_more h _ names k r (keeps_held (state_of h).frames l k r.name)
+refuses_held h names l asked (create.Full free) k r = holds_more h _ names k r (keeps_held (state_of h).frames l k r.name)
+
+-- a refusal closes its call
+pub refusal_alone : (h : List Entry) (l asked : ℕ) (e : CreateErr) → CallOf (state_of h) (Lane l) (act_of_refusal asked e) (act_of_refusal asked e ∷ [])
+refusal_alone h l asked (create.NamesSpent left) = refl
+refusal_alone h l asked (create.Full free) = refl

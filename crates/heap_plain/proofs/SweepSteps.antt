@@ -1,0 +1,315 @@
+-- Sweeping.
+use Rattle.std.proofs.Common.{◌≡◌, ◌≢◌, ℕ, ◌+◌, ◌<◌, ◌≤◌, ◌&&◌, not, refl, sym, subst, ap, ◌∙◌, inl, inr, zero, suc, arith, Bool, true, false, List, [], ◌∷◌, ◌++◌, length, length-append, append-nil, map, ◌⊎◌, Option, Some, None}
+use Rattle.std.specs.List.{list_all}
+use Rattle.std.proofs.Math.Logic.{dite}
+use Rattle.std.proofs.Math.Decide.{dec_le}
+use Rattle.std.proofs.Math.Nat.{lt_of_not-le}
+use Rattle.std.proofs.lemmas.Bool.{and_from}
+use Rattle.std.proofs.lemmas.List.{length-map}
+use Rattle.world_model.specs.Sizes.{Sizes, item_count}
+use Rattle.world_model.specs.NameLists.{has, all_different, same_name}
+use Rattle.world_model.specs.World.{World, Removal, is_at, has_stage, left_in}
+use Rattle.world_model.specs.World as model
+use Rattle.world_model.specs.CollectorSteps.{Sweeps}
+use Rattle.world_model.specs.Histories.{after, state_of}
+use Rattle.world_model.proofs.ListFacts.{Among, among_append}
+use Rattle.world_model.proofs.NameFacts.{same_name_refl}
+use Rattle.heap_plain.specs.Types.{Name, Ref, Kind, Phase, Idle, Marking, Gathering, Collector, Swept, SweepStop, Entry}
+use Rattle.heap_plain.specs.Types.act
+use Rattle.heap_plain.specs.Types.sweep
+use Rattle.heap_plain.specs.declared.life.Life.{Life}
+use Rattle.heap_plain.specs.declared.life.Life.TheVariants.{Free, Live, Removed}
+use Rattle.heap_plain.specs.Parts.{Parts, Holds, name_at, life_at}
+use Rattle.heap_plain.specs.Sweeping.{removed_name, removed_names}
+use Rattle.heap_plain.specs.Sections.{Distinct, NamesShow, RemovedShow, removal_of, count_left}
+use Rattle.heap_plain.specs.Plain.{Shows, IsPlain}
+use Rattle.heap_plain.proofs.WorldFacts.{has_among, among_has, among_left, among_right, among_test, no_longer}
+use Rattle.heap_plain.proofs.Entries.{plain_more, holds_more}
+use Rattle.heap_plain.proofs.Standing.{unique_place, life_below}
+use Rattle.heap_plain.proofs.NewNames.{distinct_append}
+use Rattle.heap_plain.proofs.MarkSteps.{distinct_snoc}
+
+-- ---- the names that are found
+
+-- where a name of the list stands
+abbrev Found : List (Option Name) → List Life → ℕ → ℕ → Name → Type 0
+Found names lives from count n = (i : ℕ) × (from ≤ i) × (i < from + count) × (name_at names i ≡ Some n) × (life_at lives i ≡ Removed)
+
+one_found : (names : List (Option Name)) (life : Life) (o : Option Name) (n : Name) → Among (removed_name life o) n → (o ≡ Some n) × (life ≡ Removed)
+one_found names Removed (Some m) n (inl e) = (ap (λ (x : Name). Some x) e, refl)
+one_found names Removed (Some m) n (inr e) = absurd e
+one_found names Removed None n a = absurd a
+one_found names Live o n a = absurd a
+one_found names Free o n a = absurd a
+
+found_at : (names : List (Option Name)) (lives : List Life) (from count : ℕ) (n : Name) → Among (removed_names names lives from count) n → Found names lives from count n
+found_at names lives from zero n a = absurd a
+found_at names lives from (suc count) n a = go (found_at names lives from count n) (among_append (removed_names names lives from count) _ n a)
+  where
+    go : (Among (removed_names names lives from count) n → Found names lives from count n) → Among (removed_names names lives from count) n ⊎ Among (removed_name (life_at lives (from + count)) (name_at names (from + count))) n → Found names lives from (suc count) n
+    go rest (inl b) = let r = rest b in (r.0, r.1, omega (arith, r.2), r.3, r.4)
+    go rest (inr b) = let r = one_found names (life_at lives (from + count)) (name_at names (from + count)) n b in (from + count, omega arith, omega arith, r.0, r.1)
+
+at_found : (names : List (Option Name)) (lives : List Life) (from count i : ℕ) (n : Name) → from ≤ i → i < from + count → name_at names i ≡ Some n → life_at lives i ≡ Removed → Among (removed_names names lives from count) n
+at_found names lives from zero i n low high at life = absurd (omega arith)
+at_found names lives from (suc count) i n low high at life = dite (dec_le (from + count) i)
+    (λ (b : from + count ≤ i).
+    let e : from + count ≡ i = omega arith in
+    among_right (removed_names names lives from count) _ n (here e))
+    (λ (b : ¬ (from + count ≤ i)). among_left (removed_names names lives from count) _ n (at_found names lives from count i n low (lt_of_not-le b) at life))
+  where
+    here : from + count ≡ i → Among (removed_name (life_at lives (from + count)) (name_at names (from + count))) n
+    here e = let l : life_at lives (from + count) ≡ Removed = ap (life_at lives) e ∙ life in let o : name_at names (from + count) ≡ Some n = ap (name_at names) e ∙ at in rw (l, o) (inl refl)
+
+distinct_found : {z : Sizes} {names : List (Option Name)} {made : List ℕ} {kinds : ℕ → List Kind} → NamesShow z names made kinds → (lives : List Life) (from count : ℕ) → Distinct (removed_names names lives from count)
+distinct_found ns lives from zero = tt
+distinct_found {names} ns lives from (suc count) = go (life_at lives (from + count)) (name_at names (from + count)) refl (distinct_found ns lives from count)
+  where
+    go : (life : Life) (o : Option Name) → name_at names (from + count) ≡ o → Distinct (removed_names names lives from count) → Distinct (removed_names names lives from count ++ removed_name life o)
+    go Removed (Some n) e d = distinct_snoc (removed_names names lives from count) n d
+        (λ a. let r = found_at names lives from count n a in let same = unique_place ns r.0 (from + count) n r.3 e in absurd (omega (arith, r.2)))
+    go Removed None e d = subst (λ (xs : List Name). Distinct xs) (sym (append-nil (removed_names names lives from count))) d
+    go Live o e d = subst (λ (xs : List Name). Distinct xs) (sym (append-nil (removed_names names lives from count))) d
+    go Free o e d = subst (λ (xs : List Name). Distinct xs) (sym (append-nil (removed_names names lives from count))) d
+
+-- ---- tests
+
+distinct_different : (names : List Name) → Distinct names → all_different names ≡ true
+distinct_different [] d = refl
+distinct_different (n ∷ names) d = and_from _ _ (go (has names n) refl) (distinct_different names d.1)
+  where
+    go : (b : Bool) → has names n ≡ b → not b ≡ true
+    go false e = refl
+    go true e = absurd (d.0 (has_among names n e))
+
+all_pass : {A : Type 0} (q : A → Bool) (xs : List A) → ((x : A) → Among xs x → q x ≡ true) → list_all q xs ≡ true
+all_pass q [] f = refl
+all_pass q (x ∷ xs) f = and_from (q x) _ (f x (inl refl)) (all_pass q xs (λ y a. f y (inr a)))
+
+name_among : (removals : List Removal) (r : Removal) → Among removals r → Among (map (λ (x : Removal). x.name) removals) r.name
+name_among [] r a = absurd a
+name_among (x ∷ removals) r (inl e) = inl (ap (λ (y : Removal). y.name) e)
+name_among (x ∷ removals) r (inr a) = inr (name_among removals r a)
+
+among_name : (removals : List Removal) (n : Name) → Among (map (λ (x : Removal). x.name) removals) n → (r : Removal) × Among removals r × (r.name ≡ n)
+among_name [] n a = absurd a
+among_name (x ∷ removals) n (inl e) = (x, inl refl, e)
+among_name (x ∷ removals) n (inr a) = let r = among_name removals n a in (r.0, inr r.1, r.2)
+
+-- ---- no collection gathers
+
+removed_same : (z : Sizes) (names : List (Option Name)) (lives : List Life) (left swept : ℕ) (phase : Phase) (removals : List Removal) (found : List Name) (looked : ℕ) → RemovedShow z names lives left swept phase removals found looked
+    → RemovedShow z names lives left swept phase removals (found ++ []) (looked + 0)
+removed_same z names lives left swept phase removals found looked k =
+    let same : looked ≡ looked + 0 = omega arith in
+    subst (λ (xs : List Name). RemovedShow z names lives left swept phase removals xs (looked + 0)) (sym (append-nil found)) (subst (λ (x : ℕ). RemovedShow z names lives left swept phase removals found x) same k)
+
+pub refuses_sweep : (z : Sizes) (p : Parts) (h : List Entry) (budget : ℕ) → IsPlain z p h → p.phase ≢ Gathering
+    → IsPlain z p (h ++ record { pass = Collector; act = act.Sweep budget (record { looked = 0; found = 0; stop = sweep.NotGathering p.phase }) [] } ∷ [])
+refuses_sweep z p h budget was other =
+    let s = was.shows in
+    plain_more z p p h (record { pass = Collector; act = act.Sweep budget (record { looked = 0; found = 0; stop = sweep.NotGathering p.phase }) [] } ∷ []) was
+    (record { finishes = s.none_agreed; may = (s.phase, other, refl, refl, refl) }, tt)
+    (record {
+      phase = s.phase;
+      frames = s.frames;
+      names = s.names;
+      units = s.units;
+      distinct = s.distinct;
+      roots = s.roots;
+      held = s.held;
+      work = s.work;
+      idle = s.idle;
+      marks = s.marks;
+      roots_marked = s.roots_marked;
+      removed = removed_same _ _ _ _ _ _ _ _ _ s.removed;
+      room = s.room;
+      none_agreed = refl;
+    })
+
+pub sweep_held : (h : List Entry) (names : List (Option Name)) (budget : ℕ) (reply : Swept) (found : List Name) (k : ℕ) (r : Ref) → Holds record { history = h; names = names } k r
+    → Holds record { history = h ++ record { pass = Collector; act = act.Sweep budget reply found } ∷ []; names = names } k r
+sweep_held h names budget reply found k r = holds_more h _ names k r (λ e. e)
+
+-- ---- a collection gathers
+
+module _ (z : Sizes) (p : Parts) (h : List Entry) (budget looked count : ℕ) (was : IsPlain z p h) (gathering : p.phase ≡ Gathering) (within : looked ≤ budget) (few : count ≤ looked) (range : p.swept + looked ≤ length p.lives)
+    (len : length (removed_names p.names p.lives p.swept looked) ≡ count) where
+  abbrev s : Shows z p (state_of h)
+  s = was.shows
+
+  abbrev names : List Name
+  names = removed_names p.names p.lives p.swept looked
+
+  phase_is : (after h).phase ≡ Gathering
+  phase_is = sym s.phase ∙ gathering
+
+  found_low : (n : Name) → Among (after h).found n → (i : ℕ) × (i < p.swept) × (name_at p.names i ≡ Some n) × (life_at p.lives i ≡ Removed)
+  found_low n a = s.removed.found_are phase_is n a
+
+  apart : (n : Name) → Among (after h).found n → Among names n → ⊥
+  apart n a b =
+      let low = found_low n a in
+      let high = found_at p.names p.lives p.swept looked n b in
+      let same = unique_place s.names low.0 high.0 n low.2 high.3 in
+      absurd (omega (arith, low.1, high.1))
+
+  removed_now : (n : Name) → Among names n → is_at (after h) model.Removed n ≡ true
+  removed_now n b =
+      let at = found_at p.names p.lives p.swept looked n b in
+      let r = s.removed.removed at.0 n at.3 at.4 in
+      among_test (λ r. same_name n r.name && has_stage model.Removed r.stage) (after h).removals (removal_of n) r (let e = same_name_refl n in rw e refl)
+
+  fresh : (n : Name) → Among names n → not (has (after h).found n) ≡ true
+  fresh n b = go (has (after h).found n) refl
+    where
+      go : (x : Bool) → has (after h).found n ≡ x → not x ≡ true
+      go false e = refl
+      go true e = absurd (apart n (has_among (after h).found n e) b)
+
+  sweeps : (stop : SweepStop) → Sweeps (state_of h) budget (record { looked = looked; found = count; stop = stop }) names
+  sweeps stop = record {
+    gathering = phase_is;
+    within = within;
+    count = sym len;
+    looked = omega arith;
+    different = distinct_different names (distinct_found s.names p.lives p.swept looked);
+    removed = all_pass (is_at (after h) model.Removed) names removed_now;
+    new = all_pass (λ n. not (has (after h).found n)) names fresh;
+  }
+
+  abbrev found' : List Name
+  found' = (after h).found ++ names
+
+  distinct' : Distinct found'
+  distinct' = distinct_append (after h).found names s.removed.found_distinct (distinct_found s.names p.lives p.swept looked) apart
+
+  found_are' : (n : Name) → Among found' n → (i : ℕ) × (i < p.swept + looked) × (name_at p.names i ≡ Some n) × (life_at p.lives i ≡ Removed)
+  found_are' n a = go (among_append (after h).found names n a)
+    where
+      go : Among (after h).found n ⊎ Among names n → (i : ℕ) × (i < p.swept + looked) × (name_at p.names i ≡ Some n) × (life_at p.lives i ≡ Removed)
+      go (inl b) = let r = found_low n b in (r.0, omega (arith, r.1), r.2, r.3)
+      go (inr b) = let r = found_at p.names p.lives p.swept looked n b in (r.0, r.2, r.3, r.4)
+
+  are_found' : (i : ℕ) (n : Name) → i < p.swept + looked → name_at p.names i ≡ Some n → life_at p.lives i ≡ Removed → Among found' n
+  are_found' i n b at life = dite (dec_le p.swept i)
+      (λ (le : p.swept ≤ i). among_right (after h).found names n (at_found p.names p.lives p.swept looked i n le b at life))
+      (λ (le : ¬ (p.swept ≤ i)). among_left (after h).found names n (s.removed.are_found phase_is i n (lt_of_not-le le) at life))
+
+  left_now : p.left ≡ length (after h).found
+  left_now = go (after h).phase phase_is s.removed.left_is
+    where
+      go : (phase : Phase) → phase ≡ Gathering → p.left ≡ count_left phase (after h).removals (after h).found → p.left ≡ length (after h).found
+      go Gathering e is = is
+      go Idle e is = absurd cc
+      go Marking e is = absurd cc
+
+  found_len : p.left + count ≡ length found'
+  found_len = let a = length-append (after h).found names in omega (arith, left_now)
+
+  swept_below : p.swept + looked ≤ item_count z
+  swept_below = omega (arith, range, s.units.lives_len)
+
+  not_marking : p.phase ≢ Marking
+  not_marking e = let a = gathering in cc
+
+  -- ---- more is left
+
+  abbrev more_reply : Swept
+  more_reply = record { looked = looked; found = count; stop = sweep.More }
+
+  abbrev more_entry : Entry
+  more_entry = record { pass = Collector; act = act.Sweep budget more_reply names }
+
+  pub sweeps_more : p.swept + looked < length p.lives → IsPlain z (record p { swept = p.swept + looked; left = p.left + count }) (h ++ more_entry ∷ [])
+  sweeps_more below = plain_more z p _ h (more_entry ∷ []) was
+      (record { finishes = s.none_agreed; may = (sweeps sweep.More, omega (arith, s.removed.swept_is, s.units.lives_len)) }, tt)
+      (record {
+        phase = s.phase;
+        frames = s.frames;
+        names = s.names;
+        units = s.units;
+        distinct = s.distinct;
+        roots = s.roots;
+        held = s.held;
+        work = s.work;
+        idle = s.idle;
+        marks = λ e. absurd (not_marking e);
+        roots_marked = λ e. absurd (not_marking e);
+        removed = record {
+          swept_is = ap (λ (k : ℕ). k + looked) s.removed.swept_is;
+          swept_few = swept_below;
+          removed = s.removed.removed;
+          gone = s.removed.gone;
+          distinct = s.removed.distinct;
+          found_distinct = distinct';
+          found_are = λ e. found_are';
+          are_found = λ e. are_found';
+          left_is = found_len ∙ sym (left_gathering phase_is);
+          left_few = λ e. omega (arith, s.removed.left_few phase_is);
+          none_left = s.removed.none_left;
+        };
+        room = s.room;
+        none_agreed = refl;
+      })
+    where
+      left_gathering : (after h).phase ≡ Gathering → count_left (after h).phase (after h).removals found' ≡ length found'
+      left_gathering e = ap (λ (ph : Phase). count_left ph (after h).removals found') e
+
+  -- ---- all is found
+
+  abbrev settled_reply : Swept
+  settled_reply = record { looked = looked; found = count; stop = sweep.Settled }
+
+  abbrev settled_entry : Entry
+  settled_entry = record { pass = Collector; act = act.Sweep budget settled_reply names }
+
+  all_found : length p.lives ≤ p.swept + looked → (r : Removal) → Among (after h).removals r → Among found' r.name
+  all_found all r a =
+      let j = s.removed.gone r a in
+      are_found' j.0 r.name (omega (arith, life_below p.lives j.0 (λ free. let gone = j.2 in cc))) j.1 j.2
+
+  same_length : length p.lives ≤ p.swept + looked → length found' ≡ length (after h).removals
+  same_length all =
+      let names_of : List Name = map (λ (x : Removal). x.name) (after h).removals in
+      let len_names : length names_of ≡ length (after h).removals = length-map (after h).removals (λ (x : Removal). x.name) in
+      let up : length found' ≤ length names_of = no_longer found' names_of distinct' (λ n a. let j = found_are' n a in name_among (after h).removals (removal_of n) (s.removed.removed j.0 n j.2 j.3)) in
+      let down : length names_of ≤ length found' = no_longer names_of found' s.removed.distinct (λ n a. let r = among_name (after h).removals n a in subst (λ (x : Name). Among found' x) r.2 (all_found all r.0 r.1)) in
+      omega arith
+
+  pub sweeps_all : length p.lives ≤ p.swept + looked → IsPlain z (record p { swept = p.swept + looked; left = p.left + count; phase = Idle }) (h ++ settled_entry ∷ [])
+  sweeps_all all = plain_more z p _ h (settled_entry ∷ []) was (
+    record {
+      finishes = s.none_agreed;
+      may = (sweeps sweep.Settled, omega (arith, s.removed.swept_is, s.units.lives_len), all_pass (λ r. has found' r.name) (after h).removals (λ r a. among_has found' r.name (all_found all r a)));
+    },
+    tt,
+  )
+      (record {
+        phase = refl;
+        frames = s.frames;
+        names = s.names;
+        units = s.units;
+        distinct = s.distinct;
+        roots = s.roots;
+        held = s.held;
+        work = s.work;
+        idle = λ ne. s.idle not_marking;
+        marks = λ e. absurd cc;
+        roots_marked = λ e. absurd cc;
+        removed = record {
+          swept_is = ap (λ (k : ℕ). k + looked) s.removed.swept_is;
+          swept_few = swept_below;
+          removed = s.removed.removed;
+          gone = s.removed.gone;
+          distinct = s.removed.distinct;
+          found_distinct = distinct';
+          found_are = λ e. absurd cc;
+          are_found = λ e. absurd cc;
+          left_is = found_len ∙ same_length all;
+          left_few = λ e. absurd cc;
+          none_left = λ e. absurd cc;
+        };
+        room = s.room;
+        none_agreed = refl;
+      })

@@ -1,0 +1,8 @@
+-- A range of a list that is written.
+use Rattle.std.specs.Prelude.{◌≡◌, ℕ, ◌+◌, ◌<◌, ◌≤◌, ◌⊎◌, List, length, get_or}
+
+-- count places from `from` on have the values of f, and the others are as they were
+pub record Filled {A : Type 0} (old new : List A) (from count : ℕ) (f : ℕ → A) : Type 0 where
+  pub len : length new ≡ length old
+  pub inside : (k : ℕ) (d : A) → k < count → get_or new (from + k) d ≡ f k
+  pub outside : (i : ℕ) (d : A) → (i < from) ⊎ (from + count ≤ i) → get_or new i d ≡ get_or old i d

@@ -1,0 +1,73 @@
+-- The vectors of a plain heap, and what contracts see of them.
+use Rattle.std.specs.Prelude.{◌≡◌, ℕ, ◌<◌, Bool, true, false, List, length, get_or, Option, Some, None}
+use Rattle.std.proofs.Common.{ap, ◌∙◌}
+use Rattle.heap_plain.specs.Types.{Name, Ref, Entry, Phase, Marking}
+use Rattle.world_model.specs.Histories.{state_of}
+use Rattle.world_model.specs.State as model
+use Rattle.heap_plain.specs.declared.life.Life.{Life}
+use Rattle.heap_plain.specs.declared.life.Life.TheVariants.{Free, Removed}
+
+-- ---- what contracts see
+
+-- the history, and the name at each index
+pub record Shown : Type 0 where
+  pub history : List Entry
+  pub names : List (Option Name)
+
+abbrev pub name_at : List (Option Name) → ℕ → Option Name
+name_at names i = get_or names i None
+
+-- the lane was given the name in this frame, and this index is its only one
+pub record Holds (s : Shown) (lane : ℕ) (r : Ref) : Type 0 where
+  pub given : model.Holds (state_of s.history) lane r.name
+  pub placed : name_at s.names r.index ≡ Some r.name
+  pub alone : (j : ℕ) → name_at s.names j ≡ Some r.name → j ≡ r.index
+
+-- no lane holds anything
+abbrev pub HoldsNothing : Shown → Type 0
+HoldsNothing s = (lane : ℕ) (r : Ref) → Holds s lane r → ⊥
+
+-- a name that is held has one index
+pub one_index : (s : Shown) (k l : ℕ) (q r : Ref) → Holds s k q → Holds s l r → q.name ≡ r.name → q ≡ r
+one_index s k l q r h i same =
+    let there : q.index ≡ r.index = i.alone q.index (h.placed ∙ ap (λ (n : Name). Some n) same) in
+    λ t. record { index = there t; name = same t }
+
+-- ---- the vectors
+
+-- the fields of a plain heap, but for its history
+pub record Parts : Type 0 where
+  pub names : List (Option Name)
+  pub firsts : List ℕ
+  pub sizes : List ℕ
+  pub lives : List Life
+  pub roots : List Bool
+  pub marked : List Bool
+  pub work : List ℕ
+  pub scanned : ℕ
+  pub pushed : ℕ
+  pub made : List ℕ
+  pub frames : List Bool
+  pub phase : Phase
+  pub left : ℕ
+  pub swept : ℕ
+
+-- the index of the first member of the unit of the object at an index
+abbrev pub first_at : List ℕ → ℕ → ℕ
+first_at firsts i = get_or firsts i 0
+
+abbrev pub life_at : List Life → ℕ → Life
+life_at lives i = get_or lives i Free
+
+abbrev pub is_removed : Life → Bool
+is_removed Removed = true
+is_removed _ = false
+
+abbrev pub is_marking : Phase → Bool
+is_marking Marking = true
+is_marking _ = false
+
+-- the list has these values
+pub record Lists {A : Type 0} (xs : List A) (n : ℕ) (f : ℕ → A) : Type 0 where
+  pub len : length xs ≡ n
+  pub each : (k : ℕ) (d : A) → k < n → get_or xs k d ≡ f k

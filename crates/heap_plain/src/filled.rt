@@ -1,0 +1,31 @@
+//! Vectors of one value.
+ghost use Rattle.std.specs.Prelude.{◌≡◌, ◌+◌, ◌≤◌, IfOk, length, replicate};
+ghost use Rattle.heap_plain.specs.Filling.{Filled};
+
+use std::alloc::{AllocError, Global};
+
+/// A vector with `value` so many times.
+pub(crate) fn filled<T: Copy + Drop>(
+    alloc: Global,
+    count: usize,
+    value: T,
+) -> Result<Vec<T>, AllocError>
+    ensures { IfOk result (λ v. v.items ≡ replicate count value) }
+{
+    let mut all = Vec::new(alloc);
+    for n in 0..count {
+        let _ = n;
+        all.push(value)?;
+    }
+    Ok(all)
+}
+
+/// Writes `value` to `count` places from `from` on.
+pub(crate) fn fill<T: Copy + Drop>(items: &mut Vec<T>, from: usize, count: usize, value: T)
+    requires { from + count ≤ length items.old.items }
+    ensures { Filled items.old.items items.new.items from count (λ k. value) }
+{
+    for k in 0..count {
+        items[from + k] = value;
+    }
+}

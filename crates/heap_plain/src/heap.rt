@@ -1,0 +1,271 @@
+//! The engine over vectors.
+ghost use Rattle.std.specs.Prelude.{◌≡◌, ℕ, ◌+◌, ◌*◌, ◌<◌, [], IfOk};
+ghost use Rattle.heap_plain.specs.Parts.{HoldsNothing};
+
+use crate::creating::{answer, decide, place, refuse};
+use crate::filled::{fill, filled};
+use crate::frames::count_open;
+use crate::life::Life;
+use crate::marking::{is_done, keep_roots, may_end, may_start, scan_units, starts, stop_of};
+use crate::rooting::{must_mark, store};
+use crate::sweeping::{find_removed, remove_white};
+use std::alloc::{AllocError, Global};
+use std::marker::{Model, PhantomData};
+use world_model::{
+    Begin, Commit, CreateErr, Diary, Engine, Kind, Marked, Name, Pass, Phase, Ref, Shape,
+    SweepStop, Swept,
+};
+
+/// A world of objects over vectors, for one owner.
+///
+/// All memory is taken by `new`: for each index of the shape its name, the first index and the
+/// size of its unit, whether it lives, its root bit, its mark bit and a place of the worklist.
+/// Opening and closing a frame, setting a root and making a unit cost as many steps as they have
+/// objects; a slice of marking as many as it scans units; the rest looks at all items.
+#[derive(Drop)]
+pub struct PlainHeap<S: Shape> {
+    /// The name at each index, while its object is not released.
+    names: Vec<Option<Name>>,
+    /// At the index of an object that of the first member of its unit, and there the unit's size.
+    firsts: Vec<u32>,
+    sizes: Vec<u32>,
+    lives: Vec<Life>,
+    roots: Vec<bool>,
+    /// At the index of the first member of a unit whether the unit is marked.
+    marked: Vec<bool>,
+    /// The worklist of the running collection: the units that were marked since it began, by the
+    /// index of the first member. The first `scanned` are black, those up to `pushed` are grey.
+    work: Vec<u32>,
+    scanned: usize,
+    pushed: usize,
+    /// How many objects each lane has made, and whether its frame is open.
+    made: Vec<u64>,
+    frames: Vec<bool>,
+    phase: Phase,
+    /// How many removed objects are left, or, while they are being found, are found; and how many
+    /// items the sweeps since the last commit have looked at.
+    left: u32,
+    swept: u32,
+    diary: Diary,
+    shape: PhantomData<S>,
+}
+
+impl<S: Shape> Model for PlainHeap<S> {
+    ghost use Rattle.heap_plain.specs.Parts.{Shown};
+
+    ghost Value = { Shown };
+
+    ghost use Rattle.heap_plain.specs.Plain.{IsPlain};
+
+    ghost view = { λ h. record { history = h.diary; names = h.names.items } };
+
+    ghost invariant = { λ h. IsPlain S.sizes (record {
+      names = h.names.items;
+      firsts = h.firsts.items;
+      sizes = h.sizes.items;
+      lives = h.lives.items;
+      roots = h.roots.items;
+      marked = h.marked.items;
+      work = h.work.items;
+      scanned = h.scanned;
+      pushed = h.pushed;
+      made = h.made.items;
+      frames = h.frames.items;
+      phase = h.phase;
+      left = h.left;
+      swept = h.swept;
+    }) h.diary };
+}
+
+impl<S: Shape> PlainHeap<S> {
+    /// An empty world. The one call that takes memory.
+    pub fn new(alloc: Global) -> Result<PlainHeap<S>, AllocError>
+        ensures empty { IfOk result (λ h. h.history ≡ []) }
+        ensures nothing_held { IfOk result HoldsNothing }
+    {
+        let lanes = S::LANES as usize;
+        let items = lanes * S::QUOTA as usize;
+        Ok(PlainHeap {
+            names: filled(alloc, items, None)?,
+            firsts: filled(alloc, items, 0)?,
+            sizes: filled(alloc, items, 0)?,
+            lives: filled(alloc, items, Life::Free)?,
+            roots: filled(alloc, items, false)?,
+            marked: filled(alloc, items, false)?,
+            work: filled(alloc, items, 0)?,
+            scanned: 0,
+            pushed: 0,
+            made: filled(alloc, lanes, 0)?,
+            frames: filled(alloc, lanes, false)?,
+            phase: Phase::Idle,
+            left: 0,
+            swept: 0,
+            diary: Diary::new(alloc)?,
+            shape: PhantomData,
+        })
+    }
+}
+
+impl<S: Shape> Engine<S> for PlainHeap<S> {
+    ghost use Rattle.heap_plain.specs.Parts.{Holds, one_index as one};
+
+    ghost history = { λ h. h.history };
+
+    ghost holds = { Holds };
+
+    ghost held_is_given = { λ e l r h. h.given };
+
+    ghost one_index = { one };
+
+    fn open_frame(&mut self, lane: u32) -> Phase {
+        self.frames[lane as usize] = true;
+        self.diary.frame_open(Pass::Lane(lane), self.phase);
+        self.phase
+    }
+
+    fn close_frame(&mut self, lane: u32) {
+        self.frames[lane as usize] = false;
+        self.diary.frame_close(Pass::Lane(lane));
+    }
+
+    fn create(&mut self, lane: u32, kinds: &[Kind], out: &mut [Ref]) -> Result<(), CreateErr> {
+        let asked = kinds.len();
+        let made = self.made[lane as usize];
+        let decision = decide(asked as u32, S::NAMES - made, S::QUOTA - made as u32);
+        if let Err(refused) = decision {
+            refuse(lane, asked as u32, refused, &mut self.diary);
+            return Err(refused);
+        }
+        let first = lane as usize * S::QUOTA as usize + made as usize;
+        place(&mut self.names, first, asked, lane, made + 1);
+        fill(&mut self.firsts, first, asked, first as u32);
+        fill(&mut self.lives, first, asked, Life::Live);
+        self.sizes[first] = asked as u32;
+        self.marked[first] = true;
+        self.made[lane as usize] = made + asked as u64;
+        self.diary.make(Pass::Lane(lane), kinds, made + 1);
+        answer(out, first as u32, lane, made + 1);
+        Ok(())
+    }
+
+    fn set_root(&mut self, lane: u32, at: Ref, on: bool) -> bool {
+        let index = at.index as usize;
+        let head = self.firsts[index];
+        if must_mark(on, self.phase, self.marked[head as usize]) {
+            self.marked[head as usize] = true;
+            self.work[self.pushed] = head;
+            self.pushed += 1;
+            self.diary.kept(Pass::Lane(lane), at.name);
+            return store(&mut self.roots, index, lane, at.name, on, &mut self.diary);
+        }
+        store(&mut self.roots, index, lane, at.name, on, &mut self.diary)
+    }
+
+    fn mark(&mut self, marker: u32, budget: u32) -> Marked {
+        self.diary.slice_open(Pass::Marker(marker));
+        let (units, scanned) = scan_units(
+            &self.names,
+            &self.sizes,
+            &self.work[self.scanned..self.pushed],
+            budget,
+            marker,
+            &mut self.diary,
+        );
+        self.scanned += units;
+        let reply = Marked {
+            scanned,
+            stop: stop_of(scanned, budget),
+        };
+        self.diary.slice(Pass::Marker(marker), budget, reply);
+        reply
+    }
+
+    fn phase(&mut self) -> Phase {
+        self.phase
+    }
+
+    fn left(&mut self) -> u32 {
+        self.left
+    }
+
+    fn begin(&mut self) -> Begin {
+        let reply = may_start(self.phase, self.left, count_open(&self.frames));
+        self.diary.begin_gc(Pass::Collector, reply);
+        if starts(reply) {
+            self.phase = Phase::Marking;
+            self.scanned = 0;
+            let items = self.marked.len();
+            fill(&mut self.marked, 0, items, false);
+            self.pushed = keep_roots(
+                &self.names,
+                &self.firsts,
+                &self.roots,
+                &mut self.marked,
+                &mut self.work,
+                &mut self.diary,
+            );
+            return Begin::Started;
+        }
+        reply
+    }
+
+    fn commit(&mut self) -> Commit {
+        let reply = may_end(
+            self.phase,
+            self.pushed - self.scanned,
+            count_open(&self.frames),
+        );
+        self.diary.commit_gc(Pass::Collector, reply);
+        if is_done(reply) {
+            self.phase = Phase::Gathering;
+            self.left = 0;
+            self.swept = 0;
+            remove_white(&self.firsts, &self.marked, &mut self.lives);
+            return Commit::Done;
+        }
+        reply
+    }
+
+    fn sweep(&mut self, budget: u32, found: &mut [Name]) -> Swept {
+        match self.phase {
+            Phase::Gathering => {}
+            _ => {
+                let reply = Swept {
+                    looked: 0,
+                    found: 0,
+                    stop: SweepStop::NotGathering(self.phase),
+                };
+                self.diary.sweep(Pass::Collector, budget, reply, &[]);
+                return reply;
+            }
+        }
+        let (looked, count) = find_removed(
+            &self.names,
+            &self.lives,
+            self.swept as usize,
+            budget,
+            found,
+        );
+        self.swept += looked;
+        self.left += count;
+        if (self.swept as usize) < self.lives.len() {
+            let reply = Swept {
+                looked,
+                found: count,
+                stop: SweepStop::More,
+            };
+            self.diary
+                .sweep(Pass::Collector, budget, reply, &found[..count as usize]);
+            return reply;
+        }
+        self.phase = Phase::Idle;
+        let reply = Swept {
+            looked,
+            found: count,
+            stop: SweepStop::Settled,
+        };
+        self.diary
+            .sweep(Pass::Collector, budget, reply, &found[..count as usize]);
+        reply
+    }
+}

@@ -1,0 +1,19 @@
+//! An object system over vectors: what the engine over shared words does, for one owner alone.
+//!
+//! It stands on `world_model`, whose trait `Engine` it implements. The layers above may use
+//! `PlainHeap` by the contract of that trait, and know besides that a new one has an empty history.
+#![tactic(auto)]
+
+mod creating;
+mod filled;
+mod frames;
+mod heap;
+mod life;
+mod marking;
+mod rooting;
+mod sweeping;
+
+pub use heap::PlainHeap;
+
+#[cfg(test)]
+mod tests;

@@ -1,0 +1,260 @@
+-- Slices and sweeps, one more at a time.
+use Rattle.std.proofs.Common.{◌≡◌, ◌≢◌, ℕ, ◌+◌, ◌-◌, ◌<◌, ◌≤◌, List, [], ◌∷◌, ◌++◌, append_assoc, append-nil, flat_map, length, length-append, IsTrue, refl, sym, ap, ◌∙◌, subst, arith, ◌⊎◌, inl, inr}
+use Rattle.std.specs.Prelude.{Result, Ok, Err, IfOk}
+use Rattle.std.proofs.lemmas.Grind.{flat_map-append}
+use Rattle.world_model.specs.Sizes.{Sizes, item_count}
+use Rattle.world_model.specs.State.{State, beginning, grey_units}
+use Rattle.world_model.specs.Next.{next, run, settled}
+use Rattle.world_model.specs.MarkerSteps.{MayStop}
+use Rattle.world_model.specs.CollectorSteps.{SweepMay}
+use Rattle.world_model.specs.Histories.{LegalFrom, state_of, after}
+use Rattle.world_model.specs.Calls.{by, SlicesAlone, SlicesUntilIdle, Appends}
+use Rattle.world_model.proofs.Joins.{run-append, by-append, legal_split}
+use Rattle.world_model.proofs.Solo.{state_after, state_after_one, legal_call, slices_closed}
+use Rattle.world_model.proofs.Progress.{left_to_scan, slice_progress, slice_world, idle_black, commit_done, started_world}
+use Rattle.world_model.specs.World.{left_of}
+use Rattle.world_model.specs.Engines.{Holdings, KeepsHeld, no_slice}
+use Rattle.world_play.specs.Types.{Name, Gathering, Marker, Collector, Begin, Commit, Marked, MarkStop, Swept, SweepStop, Act, Entry, Reply}
+use Rattle.world_play.specs.Types.begin
+use Rattle.world_play.specs.Types.commit
+use Rattle.world_play.specs.Types.reply
+use Rattle.world_play.specs.Types.act
+use Rattle.world_play.specs.Types.stop
+use Rattle.world_play.specs.Types.sweep
+use Rattle.world_play.specs.Plays.{SweepsMore}
+use Rattle.world_play.specs.Stages.{SlicesSpent, IsMarking, Marks, MarksOn, IsGathering, Finds, FindsOn, GoesOn, Collects}
+
+-- ---- slices
+
+-- a reply by its two parts
+marked_is : (reply : Marked) (why : MarkStop) → reply.stop ≡ why → reply ≡ record { scanned = reply.scanned; stop = why }
+marked_is reply why e = λ i. record { scanned = reply.scanned; stop = e i }
+
+spent_more : (s : State) (budget : ℕ) (slices : List (List Act)) (reply : Marked) (acts : List Act) → SlicesSpent s budget slices → SlicesAlone (run s (flat_map (by (Marker 0)) slices)) 0 budget reply acts → reply.stop ≡ stop.Spent → SlicesSpent s budget (slices ++ acts ∷ [])
+spent_more s budget [] reply acts h one spent = (reply.scanned, subst (λ (r : Marked). SlicesAlone s 0 budget r acts) (marked_is reply stop.Spent spent) one, tt)
+spent_more s budget (first ∷ rest) reply acts h one spent =
+    (h.0, h.1, spent_more (run s (by (Marker 0) first)) budget rest reply acts h.2 (subst (λ (t : State). SlicesAlone t 0 budget reply acts) (run-append s (by (Marker 0) first) (flat_map (by (Marker 0)) rest)) one) spent)
+
+spent_idle : (s : State) (budget : ℕ) (slices : List (List Act)) (reply : Marked) (acts : List Act) → SlicesSpent s budget slices → SlicesAlone (run s (flat_map (by (Marker 0)) slices)) 0 budget reply acts → reply.stop ≡ stop.Idle → SlicesUntilIdle s budget (slices ++ acts ∷ [])
+spent_idle s budget [] reply acts h one idle = (reply.scanned, subst (λ (r : Marked). SlicesAlone s 0 budget r acts) (marked_is reply stop.Idle idle) one)
+spent_idle s budget (first ∷ []) reply acts h one idle =
+    (h.0, h.1, spent_idle (run s (by (Marker 0) first)) budget [] reply acts h.2 (subst (λ (t : State). SlicesAlone t 0 budget reply acts) (run-append s (by (Marker 0) first) []) one) idle)
+spent_idle s budget (first ∷ second ∷ rest) reply acts h one idle =
+    (h.0, h.1, spent_idle (run s (by (Marker 0) first)) budget (second ∷ rest) reply acts h.2 (subst (λ (t : State). SlicesAlone t 0 budget reply acts) (run-append s (by (Marker 0) first) (flat_map (by (Marker 0)) (second ∷ rest))) one) idle)
+
+-- the history with one more slice
+grown_more : (old mid new : List Entry) (slices : List (List Act)) (acts : List Act) → mid ≡ old ++ flat_map (by (Marker 0)) slices → new ≡ mid ++ by (Marker 0) acts → new ≡ old ++ flat_map (by (Marker 0)) (slices ++ acts ∷ [])
+grown_more old mid new slices acts before grown =
+    grown ∙ ap (λ (h : List Entry). h ++ by (Marker 0) acts) before ∙ append_assoc old (flat_map (by (Marker 0)) slices) (by (Marker 0) acts)
+    ∙ ap (λ (es : List Entry). old ++ (flat_map (by (Marker 0)) slices ++ es)) (sym (append-nil (by (Marker 0) acts)))
+    ∙ ap (λ (es : List Entry). old ++ es) (sym (flat_map-append (by (Marker 0)) slices (acts ∷ [])))
+
+-- the state in which the next slice begins
+so_far : (old mid : List Entry) (slices : List (List Act)) → mid ≡ old ++ flat_map (by (Marker 0)) slices → state_of mid ≡ run (state_of old) (flat_map (by (Marker 0)) slices)
+so_far old mid slices grown = ap state_of grown ∙ run-append beginning old (flat_map (by (Marker 0)) slices)
+
+still_marking : (z : Sizes) (mid new : List Entry) (budget : ℕ) (reply : Marked) → IsMarking z mid → Appends z mid new (Marker 0) (act.Slice budget reply) → IsMarking z new
+still_marking z mid new budget reply now h =
+    let world = slice_world z mid new 0 budget reply h in
+    record {
+      legal = h.legal;
+      alone = slices_closed z mid new (Marker 0) (act.Slice budget reply) h now.alone;
+      marking = world.0 ∙ now.marking;
+      closed = world.1 now.closed;
+    }
+
+-- a slice that spent its budget
+pub marks_more : (z : Sizes) (old mid new : List Entry) (budget : ℕ) (reply : Marked) → MarksOn z old mid budget → Appends z mid new (Marker 0) (act.Slice budget reply) → reply.stop ≡ stop.Spent → MarksOn z old new budget
+marks_more z old mid new budget reply on h spent = record {
+  slices = on.slices ++ h.acts ∷ [];
+  marked = spent_more (state_of old) budget on.slices reply h.acts on.marked (subst (λ (t : State). SlicesAlone t 0 budget reply h.acts) (so_far old mid on.slices on.grown) h.call) spent;
+  grown = grown_more old mid new on.slices h.acts on.grown h.grown;
+  now = still_marking z mid new budget reply on.now h;
+}
+
+-- a slice that was idle
+pub marks_all : (z : Sizes) (old mid new : List Entry) (budget : ℕ) (reply : Marked) → MarksOn z old mid budget → Appends z mid new (Marker 0) (act.Slice budget reply) → reply.stop ≡ stop.Idle → Marks z old new budget
+marks_all z old mid new budget reply on h idle = record {
+  slices = on.slices ++ h.acts ∷ [];
+  marked = spent_idle (state_of old) budget on.slices reply h.acts on.marked (subst (λ (t : State). SlicesAlone t 0 budget reply h.acts) (so_far old mid on.slices on.grown) h.call) idle;
+  grown = grown_more old mid new on.slices h.acts on.grown h.grown;
+  now = still_marking z mid new budget reply on.now h;
+  black = idle_black z mid new 0 budget reply h idle;
+}
+
+-- a slice that spent its budget scanned as many objects
+spent_scanned : (z : Sizes) (mid new : List Entry) (budget : ℕ) (reply : Marked) → Appends z mid new (Marker 0) (act.Slice budget reply) → reply.stop ≡ stop.Spent → budget ≤ reply.scanned
+spent_scanned z mid new budget reply h spent =
+    let opening : List Act = act.SliceOpen ∷ h.call.notes in
+    let closing : Entry = record { pass = Marker 0; act = act.Slice budget reply } in
+    let entries : by (Marker 0) h.acts ≡ by (Marker 0) opening ++ closing ∷ [] = ap (by (Marker 0)) h.call.are ∙ by-append (Marker 0) opening (act.Slice budget reply ∷ []) in
+    let parts = legal_split z (state_of mid) (by (Marker 0) opening) (closing ∷ []) (subst (LegalFrom z (state_of mid)) entries (legal_call z mid new (Marker 0) (act.Slice budget reply) h)) in
+    subst (λ (why : MarkStop). MayStop (run (state_of mid) (by (Marker 0) opening)) 0 budget reply why) spent parts.1.0.may.stop
+
+-- and leaves less to scan
+pub marks_less : (z : Sizes) (mid new : List Entry) (budget : ℕ) (reply : Marked) → Appends z mid new (Marker 0) (act.Slice budget reply) → reply.stop ≡ stop.Spent → 1 ≤ budget → left_to_scan (state_of new) < left_to_scan (state_of mid)
+marks_less z mid new budget reply h spent some =
+    let scanned = spent_scanned z mid new budget reply h spent in
+    subst (λ (t : State). left_to_scan t < left_to_scan (state_of mid)) (sym (state_after z mid new (Marker 0) (act.Slice budget reply) h))
+    (slice_progress z (state_of mid) 0 budget reply h.acts h.call (legal_call z mid new (Marker 0) (act.Slice budget reply) h) (omega (arith, scanned)))
+
+-- ---- sweeps
+
+found_more : (budget : ℕ) (more : List Act) (early names : List Name) (r : Swept) → SweepsMore budget more early → r.stop ≡ sweep.More → r.looked ≡ budget → SweepsMore budget (more ++ act.Sweep budget r names ∷ []) (early ++ names)
+found_more budget [] early names r h stopped looked = (refl, stopped, looked, ([], refl, ap (λ (xs : List Name). xs ++ names) h ∙ sym (append-nil names)))
+found_more budget (act.Sweep b q first ∷ more) early names r h stopped looked =
+    (h.0, h.1, h.2, (h.3.0 ++ names, found_more budget more h.3.0 names r h.3.1 stopped looked, ap (λ (xs : List Name). xs ++ names) h.3.2 ∙ append_assoc first h.3.0 names))
+found_more budget (a ∷ more) early names r h stopped looked = absurd h
+
+-- the history with one more sweep
+swept_more : (old mid new : List Entry) (sweeps : List Act) (a : Act) (acts : List Act) → mid ≡ old ++ by Collector sweeps → acts ≡ a ∷ [] → new ≡ mid ++ by Collector acts → new ≡ old ++ by Collector (sweeps ++ a ∷ [])
+swept_more old mid new sweeps a acts before one grown =
+    grown ∙ ap (λ (h : List Entry). h ++ by Collector acts) before ∙ ap (λ (xs : List Act). (old ++ by Collector sweeps) ++ by Collector xs) one
+    ∙ append_assoc old (by Collector sweeps) (by Collector (a ∷ [])) ∙ ap (λ (es : List Entry). old ++ es) (sym (by-append Collector sweeps (a ∷ [])))
+
+-- what is known of a sweep while a collection gathers
+sweep_may : (z : Sizes) (mid new : List Entry) (budget : ℕ) (reply : Swept) (names : List Name) → Appends z mid new Collector (act.Sweep budget reply names) → SweepMay z (state_of mid) budget reply names reply.stop
+sweep_may z mid new budget reply names h = (subst (LegalFrom z (state_of mid)) (ap (by Collector) h.call) (legal_call z mid new Collector (act.Sweep budget reply names) h)).0.may
+
+-- why it stopped, and what it leaves
+swept_world : (z : Sizes) (mid new : List Entry) (budget : ℕ) (reply : Swept) (names : List Name) → Appends z mid new Collector (act.Sweep budget reply names) → reply.stop ≡ sweep.More
+    → ((after new).phase ≡ (after mid).phase) × ((after new).swept ≡ (after mid).swept + reply.looked) × ((after mid).swept + reply.looked < item_count z) × (reply.found ≡ length names) × (length names ≤ reply.looked) × (reply.looked ≤ budget) × ((after new).opened ≡ (after mid).opened)
+swept_world z mid new budget reply names h more =
+    let left = state_after_one z mid new Collector (act.Sweep budget reply names) h h.call in
+    let may = subst (SweepMay z (state_of mid) budget reply names) more (sweep_may z mid new budget reply names h) in (
+      ap (λ (s : State). s.world.phase) left ∙ ap (λ (why : SweepStop). settled (after mid).phase why) more,
+      ap (λ (s : State). s.world.swept) left,
+      may.1,
+      may.0.count,
+      may.0.looked,
+      may.0.within,
+      ap (λ (s : State). s.world.opened) left,
+    )
+
+-- a sweep that stopped for its budget, or because there was no more room than that
+pub finds_more : (z : Sizes) (old mid new : List Entry) (budget : ℕ) (reply : Swept) (found names : List Name) → FindsOn z old mid budget found → Appends z mid new Collector (act.Sweep budget reply names) → reply.stop ≡ sweep.More
+    → ((reply.looked ≡ budget) ⊎ (reply.found ≡ budget)) → FindsOn z old new budget (found ++ names)
+finds_more z old mid new budget reply found names on h more why =
+    let world = swept_world z mid new budget reply names h more in
+    let looked : reply.looked ≡ budget = whole world.3 world.4 world.5 why in
+    record {
+      sweeps = on.sweeps ++ act.Sweep budget reply names ∷ [];
+      swept = found_more budget on.sweeps found names reply on.swept more looked;
+      grown = swept_more old mid new on.sweeps (act.Sweep budget reply names) h.acts on.grown h.call h.grown;
+      few = rw world.1 (omega (arith, on.few, world.4, length-append found names));
+      opened = world.6 ∙ on.opened;
+      now = record { legal = h.legal; alone = slices_closed z mid new Collector (act.Sweep budget reply names) h on.now.alone; gathering = world.0 ∙ on.now.gathering };
+    }
+  where
+    whole : reply.found ≡ length names → length names ≤ reply.looked → reply.looked ≤ budget → ((reply.looked ≡ budget) ⊎ (reply.found ≡ budget)) → reply.looked ≡ budget
+    whole a b c (inl e) = e
+    whole a b c (inr e) = omega arith
+
+-- and leaves fewer items to look at
+pub finds_less : (z : Sizes) (mid new : List Entry) (budget : ℕ) (reply : Swept) (names : List Name) → Appends z mid new Collector (act.Sweep budget reply names) → reply.stop ≡ sweep.More
+    → ((reply.looked ≡ budget) ⊎ (reply.found ≡ budget)) → 1 ≤ budget → item_count z - (after new).swept < item_count z - (after mid).swept
+finds_less z mid new budget reply names h more why some =
+    let world = swept_world z mid new budget reply names h more in
+    let looked : 1 ≤ reply.looked = whole world.3 world.4 why in
+    rw world.1 (omega (arith, looked, world.2))
+  where
+    whole : reply.found ≡ length names → length names ≤ reply.looked → ((reply.looked ≡ budget) ⊎ (reply.found ≡ budget)) → 1 ≤ reply.looked
+    whole a b (inl e) = omega arith
+    whole a b (inr e) = omega arith
+
+-- while a collection gathers a sweep that does not stop for its budget has settled
+has_settled : (z : Sizes) (s : State) (budget : ℕ) (reply : Swept) (names : List Name) (why : SweepStop) → s.world.phase ≡ Gathering → SweepMay z s budget reply names why → why ≢ sweep.More → why ≡ sweep.Settled
+has_settled z s budget reply names sweep.More gathering may other = absurd (other refl)
+has_settled z s budget reply names sweep.Settled gathering may other = refl
+has_settled z s budget reply names (sweep.NotGathering phase) gathering may other = absurd (may.1 (may.0 ∙ gathering))
+
+pub finds_all : (z : Sizes) (old mid new : List Entry) (budget : ℕ) (reply : Swept) (found names : List Name) → FindsOn z old mid budget found → Appends z mid new Collector (act.Sweep budget reply names) → reply.stop ≢ sweep.More → Finds z old new budget (found ++ names)
+finds_all z old mid new budget reply found names on h other =
+    let settled_now : reply.stop ≡ sweep.Settled = has_settled z (state_of mid) budget reply names reply.stop on.now.gathering (sweep_may z mid new budget reply names h) other in
+    let may = subst (SweepMay z (state_of mid) budget reply names) settled_now (sweep_may z mid new budget reply names h) in
+    record {
+      sweeps = on.sweeps ++ act.Sweep budget reply names ∷ [];
+      swept = record { more = on.sweeps; early = found; last = reply; late = names; stopped = on.swept; settled = settled_now; are = refl; whole = refl };
+      grown = swept_more old mid new on.sweeps (act.Sweep budget reply names) h.acts on.grown h.call h.grown;
+      few = omega (arith, on.few, may.0.looked, may.1, length-append found names);
+      opened = ap (λ (s : State). s.world.opened) (state_after_one z mid new Collector (act.Sweep budget reply names) h h.call) ∙ on.opened;
+      legal = h.legal;
+      alone = slices_closed z mid new Collector (act.Sweep budget reply names) h on.now.alone;
+    }
+
+-- ---- the stages together
+
+-- where marking is at its end, a commit is done
+pub committed_all : (z : Sizes) (mid new : List Entry) (reply : Commit) → Appends z mid new Collector (act.CommitGc reply) → IsMarking z mid → grey_units (state_of mid) ≡ []
+    → IsGathering z new × ((after new).opened ≡ (after mid).opened) × (new ≡ mid ++ by Collector (act.CommitGc commit.Done ∷ []))
+committed_all z mid new reply h now black =
+    let may = (subst (LegalFrom z (state_of mid)) (ap (by Collector) h.call.are) (legal_call z mid new Collector (act.CommitGc reply) h)).0.may in
+    let done : reply ≡ commit.Done = commit_done (state_of mid) reply h.acts h.call may now.marking now.closed black in
+    let one : h.acts ≡ act.CommitGc commit.Done ∷ [] = h.call.are ∙ ap (λ (r : Commit). act.CommitGc r ∷ []) done in
+    let left : state_of new ≡ next (state_of mid) (record { pass = Collector; act = act.CommitGc commit.Done }) =
+    state_after z mid new Collector (act.CommitGc reply) h ∙ ap (λ (acts : List Act). run (state_of mid) (by Collector acts)) one in (
+      record { legal = h.legal; alone = slices_closed z mid new Collector (act.CommitGc reply) h now.alone; gathering = ap (λ (s : State). s.world.phase) left },
+      ap (λ (s : State). s.world.opened) left,
+      h.grown ∙ ap (λ (acts : List Act). mid ++ by Collector acts) one,
+    )
+
+-- a refusal opens and closes nothing
+pub refused_opened : (z : Sizes) (old new : List Entry) (why : Begin) → why ≢ begin.Started → Appends z old new Collector (act.BeginGc why) → (after new).opened ≡ (after old).opened
+refused_opened z old new begin.Started other h = absurd (other refl)
+refused_opened z old new (begin.Running phase) other h = ap (λ (s : State). s.world.opened) (state_after_one z old new Collector _ h h.call)
+refused_opened z old new (begin.Purging left) other h = ap (λ (s : State). s.world.opened) (state_after_one z old new Collector _ h h.call)
+refused_opened z old new (begin.Frames n) other h = ap (λ (s : State). s.world.opened) (state_after_one z old new Collector _ h h.call)
+
+-- where a collection starts nothing is open
+pub start_closed : (z : Sizes) (old new : List Entry) → Appends z old new Collector (act.BeginGc begin.Started) → (after old).opened ≡ []
+start_closed z old new h = (subst (LegalFrom z (state_of old)) (ap (by Collector) h.call.are) (legal_call z old new Collector (act.BeginGc begin.Started) h)).0.may.1
+
+pub starts_marking : (z : Sizes) (old new : List Entry) → Appends z old new Collector (act.BeginGc begin.Started) → IsTrue (no_slice (after old)) → IsMarking z new
+starts_marking z old new h alone =
+    let world = started_world z old new h in
+    record { legal = h.legal; alone = slices_closed z old new Collector (act.BeginGc begin.Started) h alone; marking = world.0; closed = world.1 }
+
+-- the pieces of a whole collection in a row
+pieces : (old mid new a b c : List Entry) (begins : List Entry) → mid ≡ old ++ begins → new ≡ ((mid ++ a) ++ b) ++ c → new ≡ old ++ (((begins ++ a) ++ b) ++ c)
+pieces old mid new a b c begins begun grown =
+    grown ∙ ap (λ (h : List Entry). ((h ++ a) ++ b) ++ c) begun
+    ∙ ap (λ (h : List Entry). (h ++ b) ++ c) (append_assoc old begins a)
+    ∙ ap (λ (h : List Entry). h ++ c) (append_assoc old (begins ++ a) b)
+    ∙ append_assoc old ((begins ++ a) ++ b) c
+
+pub collects_all : (z : Sizes) (budget : ℕ) (old mid new : List Entry) (before between now : Holdings) (r : Reply) → Appends z old mid Collector (act.BeginGc begin.Started) → KeepsHeld before between → GoesOn z budget mid new between now r → Collects z budget old new before now r
+collects_all z budget old mid new before between now r h held on =
+    let begins : List Entry = by Collector h.acts in
+    let marks : List Entry = flat_map (by (Marker 0)) on.slices in
+    let ends : List Entry = by Collector (act.CommitGc commit.Done ∷ []) in
+    let finds : List Entry = by Collector on.sweeps in
+    let piece : List Entry = ((begins ++ marks) ++ ends) ++ finds in
+    let grown : new ≡ old ++ piece = pieces old mid new marks ends finds begins h.grown on.grown in
+    let left : state_of new ≡ run (state_of old) piece = ap state_of grown ∙ run-append beginning old piece in
+    record {
+      piece = piece;
+      grown = grown;
+      turn = inr (record {
+        begins = h.acts;
+        slices = on.slices;
+        sweeps = on.sweeps;
+        found = on.found;
+        names = on.names;
+        begun = h.call;
+        marked = subst (λ (s : State). SlicesUntilIdle s budget on.slices) (state_after z old mid Collector (act.BeginGc begin.Started) h) on.marked;
+        swept = on.swept;
+        are = refl;
+        same = on.same;
+        in_order = on.in_order;
+        answer = on.answer ∙ ap (λ (s : State). reply.FullGc (length on.found) (left_of s.world) on.names) left;
+      });
+      legal = on.legal;
+      alone = on.alone;
+      opened = on.opened ∙ (started_world z old mid h).1 ∙ sym (start_closed z old mid h);
+      held = λ lane ref is. on.held lane ref (held lane ref is);
+    }
+
+-- what follows for a value that there may be
+pub each_ok : {T E : Type 0} (P Q : T → Type 0) (r : Result T E) → ((x : T) → P x → Q x) → IfOk r P → IfOk r Q
+each_ok P Q (Ok x) f h = f x h
+each_ok P Q (Err e) f h = tt

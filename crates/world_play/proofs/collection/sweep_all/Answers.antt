@@ -1,0 +1,26 @@
+use Rattle.std.proofs.Common.{◌≡◌, ℕ, ◌⊎◌, inl, inr, ◌∙◌}
+use Rattle.world_play.proofs.Collecting.{finds_more, finds_all, finds_less}
+use Rattle.world_play.proofs.collection.sweep_all.Goals as goal
+
+-- the buffer has room for as many names as the budget has items
+within : (looked found room budget : ℕ) → (looked ≡ budget) ⊎ (found ≡ room) → room ≡ budget → (looked ≡ budget) ⊎ (found ≡ budget)
+within looked found room budget (inl e) is = inl e
+within looked found room budget (inr e) is = inr (e ∙ is)
+
+pub sweeps-preserved : goal.sweeps-preserved
+sweeps-preserved g c =
+    let why = within _ _ _ _ (c.sweep-swept.ensures.more c.in-More.is) c.sweeps.invariant.room in
+    rw c.in_ok-extend_from_slice.ensures.items (record {
+      on = finds_more _ _ _ _ _ _ _ _ c.sweeps.invariant.on c.sweep-swept.ensures.entries c.in-More.is why;
+      held = λ lane r h. c.sweep-swept.ensures.held lane r (c.sweeps.invariant.held lane r h);
+      room = c.sweep-swept.auto.found ∙ c.sweeps.invariant.room;
+    })
+
+pub sweeps-smaller : goal.sweeps-smaller
+sweeps-smaller g c = finds_less _ _ _ _ _ _ c.sweep-swept.ensures.entries c.in-More.is (within _ _ _ _ (c.sweep-swept.ensures.more c.in-More.is) c.sweeps.invariant.room) c.requires.some
+
+pub returns-in_default : goal.returns-in_default
+returns-in_default g c = rw c.in_ok-extend_from_slice.ensures.items (record {
+  finds = finds_all _ _ _ _ _ _ _ _ c.sweeps.invariant.on c.sweep-swept.ensures.entries c.in_default.not-More;
+  held = λ lane r h. c.sweep-swept.ensures.held lane r (c.sweeps.invariant.held lane r h);
+})

@@ -1,0 +1,63 @@
+use Rattle.std.proofs.Common.{◌≡◌, ◌+◌, ℕ, refl, ap, ◌∙◌, arith, length, inl, inr, [], ◌∷◌, get_or, Some, None}
+use Rattle.std.proofs.lemmas.List.{length-set}
+use Rattle.std.proofs.lemmas.Option.{slice_get-get_or}
+use Rattle.world_model.specs.World.{made}
+use Rattle.world_model.specs.Histories.{after}
+use Rattle.world_model.proofs.Solo.{slices_closed}
+use Rattle.world_play.specs.Types.{Name, Ref, Kind}
+use Rattle.world_play.specs.Types.act
+use Rattle.world_play.specs.Types.reply
+use Rattle.world_play.specs.Plays.{bound}
+use Rattle.world_play.specs.Variables.{shown}
+use Rattle.world_play.proofs.Keeping.{bind_shown, bind_kept, kept_on, numbers_set}
+use Rattle.world_play.proofs.Turning.{make_frames, refuse_frames, fit_lane, fit_var, first_name}
+use Rattle.world_play.proofs.lane.make.Goals as goal
+
+pub returns-in-Ok : goal.returns-in-Ok
+returns-in-Ok g c budget =
+    let h = c.in-Ok.ensures.entries in
+    let lane = c.args.lane in
+    let lanes = c.args.lanes.now in
+    let l = get_or lanes lane c.index-lanes-lane.result in
+    let inside = fit_lane lane _ (length lanes) _ c.requires.count c.requires.fit in
+    let at = slice_get-get_or lanes lane c.index-lanes-lane.result inside in
+    let none : Ref = record { index = 0; name = record { lane = 0; count = 0 } } in
+    let new : Ref = get_or c.create.new.out 0 none in
+    let count : ℕ = made (after (g.E.Engine.history c.args.engine.now)) lane + 1 in
+    let name : new.name ≡ record { lane = lane; count = count } = first_name c.create.new.out none (record { lane = lane; count = count }) c.in-Ok.ensures.names in
+    let var = fit_var lane c.args.var _ lanes l _ _ at c.requires.fit in
+    record {
+      turn = (
+        _,
+        h.grown,
+        inl (
+          count,
+          (h.acts, h.call ∙ ap (λ (k : Kind). act.Make (k ∷ []) count ∷ []) c.kind-kind.ensures.kind, refl),
+          ap (reply.New lane) name,
+          bind_shown lanes lane c.args.var l _ (Some new) at inside c.bind.ensures.frame c.bind.ensures.slots var ∙ ap (λ (n : Name). bound (shown lanes) lane c.args.var (Some n)) name,
+        ),
+      );
+      frames = make_frames _ _ _ _ _ _ h;
+      numbers = numbers_set _ lane l _ at (ap length c.bind.ensures.slots ∙ length-set _ _ _);
+      legal = h.legal;
+      alone = slices_closed _ _ _ _ _ h c.requires.alone;
+      kept = bind_kept _ _ _ lane c.args.var l _ (Some new) at inside c.bind.ensures.frame c.bind.ensures.slots var (c.in-Ok.ensures.given 0 none (omega (arith, c.create.auto.out))) (kept_on _ _ _ _ c.in-Ok.ensures.held c.requires.kept);
+    }
+
+pub returns-in-Err : goal.returns-in-Err
+returns-in-Err g c budget =
+    let h = c.in-Err.ensures.entries in
+    let lane = c.args.lane in
+    let lanes = c.args.lanes.now in
+    let l = get_or lanes lane c.index-lanes-lane-in-Err.result in
+    let inside = fit_lane lane _ (length lanes) _ c.requires.count c.requires.fit in
+    let at = slice_get-get_or lanes lane c.index-lanes-lane-in-Err.result inside in
+    let var = fit_var lane c.args.var _ lanes l _ _ at c.requires.fit in
+    record {
+      turn = (_, h.grown, inr (c.in-Err.why, (h.acts, h.call, refl), c.refusal.ensures, bind_shown lanes lane c.args.var l _ None at inside c.bind-in-Err.ensures.frame c.bind-in-Err.ensures.slots var));
+      frames = refuse_frames _ _ _ _ _ _ h;
+      numbers = numbers_set _ lane l _ at (ap length c.bind-in-Err.ensures.slots ∙ length-set _ _ _);
+      legal = h.legal;
+      alone = slices_closed _ _ _ _ _ h c.requires.alone;
+      kept = bind_kept _ _ _ lane c.args.var l _ None at inside c.bind-in-Err.ensures.frame c.bind-in-Err.ensures.slots var tt (kept_on _ _ _ _ c.in-Err.ensures.held c.requires.kept);
+    }

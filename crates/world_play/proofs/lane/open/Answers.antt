@@ -1,0 +1,17 @@
+use Rattle.std.proofs.Common.{refl}
+use Rattle.world_model.proofs.Solo.{slices_closed}
+use Rattle.world_play.proofs.Keeping.{kept_on}
+use Rattle.world_play.proofs.Turning.{open_frames}
+use Rattle.world_play.proofs.lane.open.Goals as goal
+
+pub returns : goal.returns
+returns g c budget =
+    let h = c.open_frame-phase.ensures.entries in
+    record {
+      turn = (_, h.grown, (c.open_frame-phase.result, (h.acts, h.call, refl), refl, refl));
+      frames = open_frames _ _ _ _ _ h;
+      numbers = refl;
+      legal = h.legal;
+      alone = slices_closed _ _ _ _ _ h c.requires.alone;
+      kept = kept_on _ _ _ _ c.open_frame-phase.ensures.held c.requires.kept;
+    }

@@ -1,0 +1,25 @@
+use Rattle.std.proofs.Common.{◌≡◌, ◌≤◌, List, true, take, drop, length, flat_map, IsTrue}
+use Rattle.world_model.specs.State.{beginning}
+use Rattle.world_model.specs.Histories.{after, Legal}
+use Rattle.world_model.specs.Engines.{no_slice}
+use Rattle.world_play.specs.Types.{Reply}
+use Rattle.world_play.specs.Plays.{no_bindings, Plays, are_fit}
+use Rattle.world_play.specs.Text.{text_of}
+use Rattle.world_play.specs.Streams.{Gained}
+use Rattle.world_play.specs.Variables.{numbers_of, shown, AreKept}
+use Rattle.world_play.specs.Turns.{frames_of}
+use Rattle.world_play.proofs.player.play.Given as goal
+
+abbrev pub invariant-loop-played : goal.invariant-loop-played
+invariant-loop-played g l =
+    let history = g.E.Engine.history in
+    record {
+      plays : (replies : List Reply) × Plays l.budget beginning no_bindings (take l.played l.lines) (history l.engine) replies (shown l.lanes) × Gained (g.K.Sink.held l.fn.out) (g.K.Sink.held l.out) (flat_map text_of replies);
+      fit : are_fit g.S.Shape.sizes.lanes l.counts (length l.classes) (frames_of (after (history l.engine))) (drop l.played l.lines) ≡ true;
+      numbers : numbers_of l.lanes ≡ l.counts;
+      legal : Legal g.S.Shape.sizes (history l.engine);
+      alone : IsTrue (no_slice (after (history l.engine)));
+      kept : AreKept (g.E.Engine.holds l.engine) l.lanes l.played;
+      later : g.K.Sink.faults l.fn.out ≤ g.K.Sink.faults l.out;
+      written : l.written ≡ l.played;
+    }

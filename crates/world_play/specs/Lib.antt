@@ -1,0 +1,9 @@
+pub mod Types
+pub mod Plays
+pub mod Text
+pub mod Streams
+pub mod Variables
+pub mod Turns
+pub mod Stages
+pub mod Faults
+pub mod Ends

@@ -1,0 +1,101 @@
+//! Whole collections.
+ghost use Rattle.std.specs.Prelude.{◌≡◌, ◌≤◌, IfOk, IsTrue};
+ghost use Rattle.world_model.specs.Histories.{after, Legal};
+ghost use Rattle.world_model.specs.Engines.{KeepsHeld, no_slice};
+ghost use Rattle.world_play.specs.Plays.{reply_of_begin};
+ghost use Rattle.world_play.specs.Stages.{IsMarking, Marks, IsGathering, Finds, GoesOn, Collects};
+
+use crate::reply::Reply;
+use std::alloc::{AllocError, Global};
+use world_model::{Begin, Engine, MarkStop, Name, Names, Shape, SweepStop};
+
+/// What stands in a buffer before a name is found.
+const NO_NAME: Name = Name { lane: 0, count: 0 };
+
+/// Marker 0 marks in slices of so many objects until a slice is idle.
+fn mark_all<S: Shape, E: Engine<S>>(engine: &mut E, budget: u32)
+    requires some { 1 ≤ budget }
+    requires marking { IsMarking S.sizes (E.history engine.old) }
+    ensures marks { Marks S.sizes (E.history engine.old) (E.history engine.new) budget }
+    ensures held { KeepsHeld (E.holds engine.old) (E.holds engine.new) }
+{
+    'slices: loop {
+        let marked = engine.mark(0, budget);
+        match marked.stop {
+            MarkStop::Spent => {}
+            MarkStop::Idle => return,
+        }
+    }
+}
+
+/// Sweeps in slices of so many items until all that was removed is found.
+fn sweep_all<S: Shape, E: Engine<S>>(
+    alloc: Global,
+    engine: &mut E,
+    budget: u32,
+) -> Result<Vec<Name>, AllocError>
+    requires some { 1 ≤ budget }
+    requires gathering { IsGathering S.sizes (E.history engine.old) }
+    ensures finds { IfOk result (λ found. Finds S.sizes (E.history engine.old) (E.history engine.new) budget found.items) }
+    ensures held { KeepsHeld (E.holds engine.old) (E.holds engine.new) }
+{
+    let mut found = Vec::new(alloc);
+    let mut buffer = vec![in alloc; NO_NAME; budget as usize]?;
+    let room = buffer.as_mut_slice();
+    'sweeps: loop {
+        let swept = engine.sweep(budget, room);
+        found.extend_from_slice(&room[..swept.found as usize])?;
+        match swept.stop {
+            SweepStop::More => {}
+            _ => return Ok(found),
+        }
+    }
+}
+
+/// Why no collection began.
+fn refusal(why: Begin) -> Reply
+    ensures { result ≡ reply_of_begin why }
+{
+    match why {
+        Begin::Started => Reply::Pending(0),
+        Begin::Running(phase) => Reply::Running(phase),
+        Begin::Purging(left) => Reply::Purging(left),
+        Begin::Frames(frames) => Reply::Pending(frames),
+    }
+}
+
+/// The rest of a whole collection, once it has begun.
+fn go_on<S: Shape, E: Engine<S>>(
+    alloc: Global,
+    engine: &mut E,
+    budget: u32,
+) -> Result<Reply, AllocError>
+    requires some { 1 ≤ budget }
+    requires marking { IsMarking S.sizes (E.history engine.old) }
+    ensures { IfOk result (λ reply. GoesOn S.sizes budget (E.history engine.old) (E.history engine.new) (E.holds engine.old) (E.holds engine.new) reply) }
+{
+    mark_all::<S, E>(engine, budget);
+    let _ = engine.commit();
+    let mut names = sweep_all::<S, E>(alloc, engine, budget)?;
+    names.sort_unstable();
+    let removed = names.len() as u32;
+    let left = engine.left();
+    Ok(Reply::FullGc(removed, left, Names::from_vec(names)))
+}
+
+/// `gc full`, in slices of so many objects, items or steps.
+pub(crate) fn full<S: Shape, E: Engine<S>>(
+    alloc: Global,
+    engine: &mut E,
+    budget: u32,
+) -> Result<Reply, AllocError>
+    requires some { 1 ≤ budget }
+    requires legal { Legal S.sizes (E.history engine.old) }
+    requires alone { IsTrue (no_slice (after (E.history engine.old))) }
+    ensures { IfOk result (λ reply. Collects S.sizes budget (E.history engine.old) (E.history engine.new) (E.holds engine.old) (E.holds engine.new) reply) }
+{
+    match engine.begin() {
+        Begin::Started => go_on::<S, E>(alloc, engine, budget),
+        why => Ok(refusal(why)),
+    }
+}

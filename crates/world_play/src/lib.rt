@@ -1,0 +1,28 @@
+//! The player of level scripts, and the program as one call.
+//!
+//! It stands on `level_script` for what a script is, on `world_model` for what an engine does, on
+//! `heap_plain` for an engine, and on `play_io` for the outside. The player is written over any
+//! engine. `specs/Plays` says when a history plays lines, `specs/Text` has the text of a reply, and
+//! `specs/Ends` what a whole run has done.
+//!
+//! The layer above calls `worldrun`, and writes `fault_text` and `exit_code` of its status.
+#![tactic(auto)]
+
+mod collection;
+mod lane;
+mod player;
+mod reply;
+mod run;
+mod status;
+mod stream;
+#[cfg(test)]
+mod tests;
+mod text;
+mod turn;
+mod variables;
+
+pub use play_io::{Failed, NoPace, Pace, PutErr, Sink, Source, SureSink, SureSource, Turn};
+pub use player::play;
+pub use reply::Reply;
+pub use run::{Ended, Run, worldrun};
+pub use status::{Status, exit_code, fault_text};

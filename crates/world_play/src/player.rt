@@ -1,0 +1,75 @@
+//! Whole scripts.
+ghost use Rattle.std.specs.Prelude.{◌≡◌, ◌≤◌, true, false, [], length, replicate, Err, OnOk};
+ghost use Rattle.play_io.specs.Faults.{Rose};
+ghost use Rattle.play_io.specs.declared.sink.PutErr.TheVariants as put;
+ghost use Rattle.level_script.specs.Frames.{are_framed};
+ghost use Rattle.world_play.specs.Turns.{IsReady, Answered, Played};
+
+use crate::stream::put_all;
+use crate::text;
+use crate::turn::turn;
+use crate::variables::{LaneVariables, unbound};
+use level_script::{ClassTable, Line};
+use play_io::{PutErr, Sink};
+use std::alloc::Global;
+use world_model::{Engine, Shape};
+
+/// Plays a line, behind so many lines, and puts the text of its reply as one piece.
+fn play_line<S: Shape, E: Engine<S>, K: Sink>(
+    alloc: Global,
+    engine: &mut E,
+    classes: &ClassTable,
+    lanes: &mut [LaneVariables],
+    played: usize,
+    budget: u32,
+    line: Line,
+    out: &mut K,
+) -> Result<(), PutErr>
+    requires some { 1 ≤ budget }
+    requires ready { IsReady S.sizes (E.history engine.old) (E.holds engine.old) lanes.old played (length classes.now) line.who line.cmd }
+    ensures later { K.faults out.old ≤ K.faults out.new }
+    ensures failed { result ≡ Err put.Failed → Rose (K.faults out.old) (K.faults out.new) }
+    ensures answered { OnOk result (Answered S.sizes budget (E.history engine.old) (E.history engine.new) (E.holds engine.new) lanes.old lanes.new played line (K.held out.old) (K.held out.new)) }
+{
+    let Ok(reply) = turn::<S, E>(alloc, engine, classes, lanes, played, budget, line) else {
+        return Err(PutErr::Memory);
+    };
+    let Ok(text) = text::line(alloc, &reply) else {
+        return Err(PutErr::Memory);
+    };
+    put_all(out, text.as_bytes())
+}
+
+/// Plays the lines in order with slices of so many objects, items or steps, and puts the text of
+/// each reply when its line is done. `written` counts the lines that were put whole.
+pub fn play<S: Shape, E: Engine<S>, K: Sink>(
+    alloc: Global,
+    engine: &mut E,
+    classes: &ClassTable,
+    lines: &[Line],
+    counts: &[u32],
+    budget: u32,
+    out: &mut K,
+    written: &mut u64,
+) -> Result<(), PutErr>
+    requires some { 1 ≤ budget }
+    requires lanes { length counts.now ≡ S.sizes.lanes }
+    requires framed { are_framed counts.now (length classes.now) (replicate S.sizes.lanes false) lines.now ≡ true }
+    requires start { E.history engine.old ≡ [] }
+    requires none { written.old ≡ 0 }
+    ensures later { K.faults out.old ≤ K.faults out.new }
+    ensures failed { result ≡ Err put.Failed → Rose (K.faults out.old) (K.faults out.new) }
+    ensures plays { OnOk result (Played S.sizes budget lines.now (E.history engine.new) (K.held out.old) (K.held out.new)) }
+    ensures written { OnOk result (written.new ≡ length lines.now) }
+{
+    let Ok(mut variables) = unbound(alloc, counts) else {
+        return Err(PutErr::Memory);
+    };
+    let lanes = variables.as_mut_slice();
+    for played in 0..lines.len() {
+        let line = lines[played];
+        play_line::<S, E, K>(alloc, engine, classes, lanes, played, budget, line, out)?;
+        *written += 1;
+    }
+    Ok(())
+}

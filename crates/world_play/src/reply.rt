@@ -1,0 +1,31 @@
+//! What each line of a script answers.
+
+use world_model::{Name, Names, Phase};
+
+/// The reply to a line. A lane's reply begins with its lane.
+#[derive(Clone, Debug, Drop, PartialEq, Eq)]
+pub enum Reply {
+    /// The frame is open; the phase that it found.
+    Opened(u32, Phase),
+    /// The frame is closed.
+    Closed(u32),
+    /// The object that was made.
+    New(u32, Name),
+    /// Nothing was made, since so many indexes are free.
+    Full(u32, u32),
+    /// Nothing was made, since so many names are left.
+    NamesSpent(u32, u64),
+    /// Whether the object was in the root set.
+    WasRoot(u32, bool),
+    /// The variable stands for no object.
+    NoObject(u32),
+    /// No collection began, since one runs; its phase.
+    Running(Phase),
+    /// No collection began, since so many objects of the last one are not released.
+    Purging(u32),
+    /// No collection began, since so many frames are open.
+    Pending(u32),
+    /// A whole collection: how many objects it removed, how many of these are not released, and
+    /// which they are, in the order of their names.
+    FullGc(u32, u32, Names),
+}

@@ -1,0 +1,273 @@
+//! Whole runs, with the texts that the language gives them. Sources give, and sinks take, so many
+//! bytes at a time.
+ghost use Rattle.std.specs.Prelude.{◌<◌};
+
+use crate::run::worldrun;
+use crate::status::{Status, exit_code, fault_text};
+use level_script::{Cause, SchemaErr, ScriptErr};
+use play_io::{NoPace, SureSink, SureSource};
+use std::alloc::Global;
+use std::thread::Threads;
+
+/// How a run ended, and what it wrote.
+#[derive(Drop)]
+struct Ran {
+    status: Status,
+    lines: u64,
+    text: SureSink,
+}
+
+// A run of these words over this input.
+fn run<R: Threads + Sync>(
+    rt: &R,
+    alloc: Global,
+    words: &[String],
+    input: &[u8],
+    piece: u32,
+) -> Option<Ran>
+    requires { 0 < piece }
+{
+    let mut bytes = Vec::new(alloc);
+    let Ok(()) = bytes.extend_from_slice(input) else {
+        return None;
+    };
+    let mut source = SureSource::new(bytes, piece);
+    let mut text = SureSink::new(alloc, piece);
+    let ended = worldrun(rt, alloc, words, &mut source, &mut text, &NoPace);
+    let status = ended.status;
+    let lines = ended.lines;
+    Some(Ran {
+        status,
+        lines,
+        text,
+    })
+}
+
+// Whether `play` of this input ends so, and writes this text of so many lines.
+fn plays<R: Threads + Sync>(
+    rt: &R,
+    alloc: Global,
+    input: &str,
+    piece: u32,
+    status: Status,
+    text: &str,
+    lines: u64,
+) -> bool
+    requires { 0 < piece }
+{
+    let Ok(word) = String::from_str(alloc, "play") else {
+        return false;
+    };
+    match run(rt, alloc, &[word], input.as_bytes(), piece) {
+        Some(ran) => {
+            ran.status == status && ran.lines == lines && ran.text.bytes() == text.as_bytes()
+        }
+        None => false,
+    }
+}
+
+// Whether `play` of this input is a fault of this line, and writes nothing.
+fn is_fault<R: Threads + Sync>(
+    rt: &R,
+    alloc: Global,
+    input: &str,
+    line: u32,
+    cause: Cause,
+) -> bool {
+    let status = Status::Script(ScriptErr { line, cause });
+    plays(rt, alloc, input, 4096, status, "", 0)
+}
+
+const SMALLEST: &str = "class A Object\n0 open\n0 new a A\n0 root a on\n0 close\ngc full\n";
+
+#[test]
+fn the_smallest_script(rt: HostRuntime) {
+    let text = "0 open idle\n0 new 0:1\n0 was off\n0 close\ngc full removed 0 left 0\n";
+    for piece in [1, 7, 4096, 100_000] {
+        assert!(rt; plays(&rt, rt.alloc(), SMALLEST, piece, Status::Ok, text, 5));
+    }
+}
+
+#[test]
+fn the_empty_script(rt: HostRuntime) {
+    assert!(rt; plays(&rt, rt.alloc(), "", 1, Status::Ok, "", 0));
+    assert!(rt; plays(&rt, rt.alloc(), "# none\n", 1, Status::Ok, "", 0));
+}
+
+#[test]
+fn frames_in_two_lanes(rt: HostRuntime) {
+    let script = "0 open\n1 open\ngc full\n0 close\ngc full\n1 close\ngc full\ngc full\n";
+    let text =
+        "0 open idle\n1 open idle\ngc pending frames 2\n0 close\ngc pending frames 1\n1 close\ngc full removed 0 left 0\ngc full removed 0 left 0\n";
+    assert!(rt; plays(&rt, rt.alloc(), script, 64, Status::Ok, text, 8));
+}
+
+#[test]
+fn a_lane_that_is_full(rt: HostRuntime) {
+    let mut script = String::from_str(rt.alloc(), "0 open\n").expect(&rt, "memory");
+    let mut text = String::from_str(rt.alloc(), "0 open idle\n").expect(&rt, "memory");
+    for count in 0..8192u32 {
+        script
+            .push_str("0 new a Object\n0 root a on\n")
+            .expect(&rt, "memory");
+        let made = count + 1;
+        let more = format!(in rt.alloc(); "0 new 0:{made}\n0 was off\n").expect(&rt, "memory");
+        text.push_str(more.as_str()).expect(&rt, "memory");
+    }
+    script
+        .push_str("0 new a Object\n0 root a on\n")
+        .expect(&rt, "memory");
+    text.push_str("0 full 0\n0 none\n").expect(&rt, "memory");
+    assert!(rt;
+        plays(
+            &rt,
+            rt.alloc(),
+            script.as_str(),
+            4096,
+            Status::Ok,
+            text.as_str(),
+            16387
+        )
+    );
+}
+
+#[test]
+fn inputs_that_are_no_scripts(rt: HostRuntime) {
+    let parent = Cause::Schema(SchemaErr::NoParent);
+    assert!(rt;
+        is_fault(
+            &rt,
+            rt.alloc(),
+            "class A Object\nclass B C\n0 open\n",
+            2,
+            parent
+        )
+    );
+    assert!(rt; is_fault(&rt, rt.alloc(), "0 open\n0 open\n", 2, Cause::Frame));
+    assert!(rt;
+        is_fault(
+            &rt,
+            rt.alloc(),
+            "0 open\n0 new a Object\n0 close\n",
+            2,
+            Cause::UnknownCommand
+        )
+    );
+}
+
+#[test]
+fn other_words(rt: HostRuntime) {
+    let alloc = rt.alloc();
+    let none: [String; 0] = [];
+    let ran = run(&rt, alloc, &none, b"0 open\n", 1).expect(&rt, "memory");
+    assert_eq!(rt; ran.status, Status::Usage);
+    for word in ["gen", "pla", "play ", "Play"] {
+        let word = String::from_str(alloc, word).expect(&rt, "memory");
+        let ran = run(&rt, alloc, &[word], b"0 open\n", 1).expect(&rt, "memory");
+        assert_eq!(rt; ran.status, Status::Usage);
+    }
+    let first = String::from_str(alloc, "play").expect(&rt, "memory");
+    let second = String::from_str(alloc, "play").expect(&rt, "memory");
+    let ran = run(&rt, alloc, &[first, second], b"0 open\n", 1).expect(&rt, "memory");
+    assert_eq!(rt; ran.status, Status::Usage);
+    assert_eq!(rt; ran.text.bytes().len(), 0);
+}
+
+// Whether the status has this text and this exit status.
+fn tells(alloc: Global, status: Status, text: &str, code: u8) -> bool {
+    match fault_text(alloc, &status) {
+        Ok(told) => told.as_slice() == text.as_bytes() && exit_code(&status) == code,
+        Err(_) => false,
+    }
+}
+
+fn script_fault(line: u32, cause: Cause) -> Status {
+    Status::Script(ScriptErr { line, cause })
+}
+
+#[test]
+fn fault_texts(rt: HostRuntime) {
+    let table = [
+        (Status::Ok, "", 0),
+        (Status::Usage, "worldrun: usage: play or gen\n", 2),
+        (Status::ReadFault, "worldrun: read fault\n", 4),
+        (Status::WriteFault, "worldrun: write fault\n", 5),
+        (Status::Memory, "worldrun: memory\n", 6),
+        (
+            script_fault(0, Cause::TooLong),
+            "worldrun: script line 0: too long\n",
+            3,
+        ),
+        (
+            script_fault(1, Cause::Utf8),
+            "worldrun: script line 1: not utf-8\n",
+            3,
+        ),
+        (
+            script_fault(20, Cause::UnknownCommand),
+            "worldrun: script line 20: unknown command\n",
+            3,
+        ),
+        (
+            script_fault(3, Cause::Words),
+            "worldrun: script line 3: words\n",
+            3,
+        ),
+        (
+            script_fault(3, Cause::Number),
+            "worldrun: script line 3: number\n",
+            3,
+        ),
+        (
+            script_fault(3, Cause::Frame),
+            "worldrun: script line 3: frame\n",
+            3,
+        ),
+        (
+            script_fault(3, Cause::UnknownName),
+            "worldrun: script line 3: unknown name\n",
+            3,
+        ),
+        (
+            script_fault(3, Cause::NameTwice),
+            "worldrun: script line 3: name twice\n",
+            3,
+        ),
+        (
+            script_fault(3, Cause::ParShape),
+            "worldrun: script line 3: par shape\n",
+            3,
+        ),
+        (
+            script_fault(4, Cause::Schema(SchemaErr::NameTaken(2))),
+            "worldrun: script line 4: name taken at line 2\n",
+            3,
+        ),
+        (
+            script_fault(4, Cause::Schema(SchemaErr::NoParent)),
+            "worldrun: script line 4: no parent\n",
+            3,
+        ),
+        (
+            script_fault(
+                4,
+                Cause::Schema(SchemaErr::TooManySlots { used: 1, asked: 2 }),
+            ),
+            "worldrun: script line 4: too many slots\n",
+            3,
+        ),
+        (
+            script_fault(4, Cause::Schema(SchemaErr::HasChildren)),
+            "worldrun: script line 4: has children\n",
+            3,
+        ),
+        (
+            script_fault(4, Cause::Schema(SchemaErr::TooManyClasses)),
+            "worldrun: script line 4: too many classes\n",
+            3,
+        ),
+    ];
+    for (status, text, code) in table {
+        assert!(rt; tells(rt.alloc(), status, text, code));
+    }
+}
