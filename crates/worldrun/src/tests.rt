@@ -1,9 +1,10 @@
 //! What the clauses do not say: that bytes pass, and that a failure is counted.
 use crate::std_sink::StdSink;
 use crate::std_source::StdSource;
+use crate::tell;
 use std::io;
 use std::io::{ErrorKind, Read, Write};
-use world_play::{Failed, PutErr, Sink, Source};
+use world_play::{Failed, PutErr, Sink, Source, Status};
 
 // Fails each time.
 #[derive(Drop)]
@@ -95,4 +96,14 @@ fn an_interrupted_call_is_made_again(rt: HostRuntime) {
     assert_eq!(rt; source.take(&mut buf), Ok(1));
     let mut sink = StdSink::new(Interrupted { done: false });
     assert_eq!(rt; sink.put(b"a"), Ok(1));
+}
+
+#[test]
+fn a_fault_is_told_to_a_writer(rt: HostRuntime) {
+    let mut bytes = Vec::new(rt.alloc());
+    tell(rt.alloc(), &Status::Usage, &mut bytes);
+    assert_eq!(rt;
+        bytes.as_slice(),
+        b"worldrun: usage: play or gen\n".as_slice()
+    );
 }
