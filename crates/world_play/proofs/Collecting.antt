@@ -1,28 +1,29 @@
 -- Slices and sweeps, one more at a time.
-use Rattle.std.proofs.Common.{◌≡◌, ◌≢◌, ℕ, ◌+◌, ◌-◌, ◌<◌, ◌≤◌, List, [], ◌∷◌, ◌++◌, append_assoc, append-nil, flat_map, length, length-append, IsTrue, refl, sym, ap, ◌∙◌, subst, arith, ◌⊎◌, inl, inr}
-use Rattle.std.specs.Prelude.{Result, Ok, Err, IfOk}
+use Rattle.std.proofs.Common.{◌≡◌, ◌≢◌, ℕ, ◌+◌, ◌-◌, ◌<◌, ◌≤◌, List, [], ◌∷◌, ◌++◌, append_assoc, append-nil, flat_map, map, length, length-append, IsTrue, refl, sym, ap, ◌∙◌, subst, arith, ◌⊎◌, inl, inr}
+use Rattle.std.specs.Prelude.{Result, Ok, Err, IfOk, OnErr}
 use Rattle.std.proofs.lemmas.Grind.{flat_map-append}
 use Rattle.world_model.specs.Sizes.{Sizes, item_count}
 use Rattle.world_model.specs.State.{State, beginning, grey_units}
 use Rattle.world_model.specs.Next.{next, run, settled}
 use Rattle.world_model.specs.MarkerSteps.{MayStop}
 use Rattle.world_model.specs.CollectorSteps.{SweepMay}
-use Rattle.world_model.specs.Histories.{LegalFrom, state_of, after}
-use Rattle.world_model.specs.Calls.{by, SlicesAlone, SlicesUntilIdle, Appends}
+use Rattle.world_model.specs.Histories.{Legal, LegalFrom, state_of, after}
+use Rattle.world_model.specs.Calls.{by, CallOf, SlicesAlone, SlicesUntilIdle, Appends}
 use Rattle.world_model.proofs.Joins.{run-append, by-append, legal_split}
 use Rattle.world_model.proofs.Solo.{state_after, state_after_one, legal_call, slices_closed}
 use Rattle.world_model.proofs.Progress.{left_to_scan, slice_progress, slice_world, idle_black, commit_done, started_world}
-use Rattle.world_model.specs.World.{left_of}
 use Rattle.world_model.specs.Engines.{Holdings, KeepsHeld, no_slice}
 use Rattle.world_play.specs.Types.{Name, Gathering, Marker, Collector, Begin, Commit, Marked, MarkStop, Swept, SweepStop, Act, Entry, Reply}
 use Rattle.world_play.specs.Types.begin
 use Rattle.world_play.specs.Types.commit
-use Rattle.world_play.specs.Types.reply
+use Rattle.world_play.specs.Types.who
+use Rattle.world_play.specs.Types.cmd
 use Rattle.world_play.specs.Types.act
 use Rattle.world_play.specs.Types.stop
 use Rattle.world_play.specs.Types.sweep
-use Rattle.world_play.specs.Plays.{SweepsMore}
-use Rattle.world_play.specs.Stages.{SlicesSpent, IsMarking, Marks, MarksOn, IsGathering, Finds, FindsOn, GoesOn, Collects}
+use Rattle.world_play.specs.Plays.{Bindings, SlicesSpent, SweepsMore, SweepsAll, IsPiece, IsPart, first_begin, full_reply}
+use Rattle.world_play.specs.Turns.{Broken}
+use Rattle.world_play.specs.Stages.{IsMarking, Marks, MarksOn, IsGathering, Finds, FindsOn, FindsSome, GoesOn, GoesOnSome, Collects}
 
 -- ---- slices
 
@@ -100,11 +101,10 @@ marks_less z mid new budget reply h spent some =
 
 -- ---- sweeps
 
-found_more : (budget : ℕ) (more : List Act) (early names : List Name) (r : Swept) → SweepsMore budget more early → r.stop ≡ sweep.More → r.looked ≡ budget → SweepsMore budget (more ++ act.Sweep budget r names ∷ []) (early ++ names)
-found_more budget [] early names r h stopped looked = (refl, stopped, looked, ([], refl, ap (λ (xs : List Name). xs ++ names) h ∙ sym (append-nil names)))
-found_more budget (act.Sweep b q first ∷ more) early names r h stopped looked =
-    (h.0, h.1, h.2, (h.3.0 ++ names, found_more budget more h.3.0 names r h.3.1 stopped looked, ap (λ (xs : List Name). xs ++ names) h.3.2 ∙ append_assoc first h.3.0 names))
-found_more budget (a ∷ more) early names r h stopped looked = absurd h
+found_more : (budget : ℕ) (more : List Act) (names : List Name) (r : Swept) → SweepsMore budget more → r.stop ≡ sweep.More → r.looked ≡ budget → SweepsMore budget (more ++ act.Sweep budget r names ∷ [])
+found_more budget [] names r h stopped looked = (refl, stopped, looked, tt)
+found_more budget (act.Sweep b q first ∷ more) names r h stopped looked = (h.0, h.1, h.2, found_more budget more names r h.3 stopped looked)
+found_more budget (a ∷ more) names r h stopped looked = absurd h
 
 -- the history with one more sweep
 swept_more : (old mid new : List Entry) (sweeps : List Act) (a : Act) (acts : List Act) → mid ≡ old ++ by Collector sweeps → acts ≡ a ∷ [] → new ≡ mid ++ by Collector acts → new ≡ old ++ by Collector (sweeps ++ a ∷ [])
@@ -131,6 +131,12 @@ swept_world z mid new budget reply names h more =
       ap (λ (s : State). s.world.opened) left,
     )
 
+-- the names that a sweep found are found after those before it
+swept_names : (z : Sizes) (old mid new : List Entry) (budget : ℕ) (reply : Swept) (found names : List Name) → (after mid).found ≡ (after old).found ++ found → Appends z mid new Collector (act.Sweep budget reply names) → (after new).found ≡ (after old).found ++ (found ++ names)
+swept_names z old mid new budget reply found names was h =
+    ap (λ (s : State). s.world.found) (state_after_one z mid new Collector (act.Sweep budget reply names) h h.call)
+    ∙ ap (λ (xs : List Name). xs ++ names) was ∙ append_assoc (after old).found found names
+
 -- a sweep that stopped for its budget, or because there was no more room than that
 pub finds_more : (z : Sizes) (old mid new : List Entry) (budget : ℕ) (reply : Swept) (found names : List Name) → FindsOn z old mid budget found → Appends z mid new Collector (act.Sweep budget reply names) → reply.stop ≡ sweep.More
     → ((reply.looked ≡ budget) ⊎ (reply.found ≡ budget)) → FindsOn z old new budget (found ++ names)
@@ -139,8 +145,9 @@ finds_more z old mid new budget reply found names on h more why =
     let looked : reply.looked ≡ budget = whole world.3 world.4 world.5 why in
     record {
       sweeps = on.sweeps ++ act.Sweep budget reply names ∷ [];
-      swept = found_more budget on.sweeps found names reply on.swept more looked;
+      swept = found_more budget on.sweeps names reply on.swept more looked;
       grown = swept_more old mid new on.sweeps (act.Sweep budget reply names) h.acts on.grown h.call h.grown;
+      names = swept_names z old mid new budget reply found names on.names h;
       few = rw world.1 (omega (arith, on.few, world.4, length-append found names));
       opened = world.6 ∙ on.opened;
       now = record { legal = h.legal; alone = slices_closed z mid new Collector (act.Sweep budget reply names) h on.now.alone; gathering = world.0 ∙ on.now.gathering };
@@ -174,19 +181,37 @@ finds_all z old mid new budget reply found names on h other =
     let may = subst (SweepMay z (state_of mid) budget reply names) settled_now (sweep_may z mid new budget reply names h) in
     record {
       sweeps = on.sweeps ++ act.Sweep budget reply names ∷ [];
-      swept = record { more = on.sweeps; early = found; last = reply; late = names; stopped = on.swept; settled = settled_now; are = refl; whole = refl };
+      swept = record { more = on.sweeps; last = reply; late = names; stopped = on.swept; settled = settled_now; are = refl };
       grown = swept_more old mid new on.sweeps (act.Sweep budget reply names) h.acts on.grown h.call h.grown;
+      names = swept_names z old mid new budget reply found names on.names h;
       few = omega (arith, on.few, may.0.looked, may.1, length-append found names);
       opened = ap (λ (s : State). s.world.opened) (state_after_one z mid new Collector (act.Sweep budget reply names) h h.call) ∙ on.opened;
       legal = h.legal;
       alone = slices_closed z mid new Collector (act.Sweep budget reply names) h on.now.alone;
     }
 
+-- after one more sweep some sweeps were made, or all
+pub finds_some : (z : Sizes) (old mid new : List Entry) (budget : ℕ) (reply : Swept) (found names : List Name) → FindsOn z old mid budget found → Appends z mid new Collector (act.Sweep budget reply names)
+    → (reply.stop ≡ sweep.More → (reply.looked ≡ budget) ⊎ (reply.found ≡ budget)) → FindsSome z old new budget
+finds_some z old mid new budget reply found names on h why = go reply.stop refl
+  where
+    all : reply.stop ≢ sweep.More → FindsSome z old new budget
+    all other = let f = finds_all z old mid new budget reply found names on h other in record { sweeps = f.sweeps; swept = inr f.swept; grown = f.grown; legal = h.legal }
+
+    go : (stop : SweepStop) → reply.stop ≡ stop → FindsSome z old new budget
+    go sweep.More e = let f = finds_more z old mid new budget reply found names on h e (why e) in record { sweeps = f.sweeps; swept = inl f.swept; grown = f.grown; legal = h.legal }
+    go sweep.Settled e = all (λ same. absurd cc)
+    go (sweep.NotGathering phase) e = all (λ same. absurd cc)
+
+-- no sweep was made yet
+pub finds_none : (z : Sizes) (old : List Entry) (budget : ℕ) → Legal z old → FindsSome z old old budget
+finds_none z old budget legal = record { sweeps = []; swept = inl tt; grown = sym (append-nil old); legal = legal }
+
 -- ---- the stages together
 
 -- where marking is at its end, a commit is done
 pub committed_all : (z : Sizes) (mid new : List Entry) (reply : Commit) → Appends z mid new Collector (act.CommitGc reply) → IsMarking z mid → grey_units (state_of mid) ≡ []
-    → IsGathering z new × ((after new).opened ≡ (after mid).opened) × (new ≡ mid ++ by Collector (act.CommitGc commit.Done ∷ []))
+    → IsGathering z new × ((after new).opened ≡ (after mid).opened) × (new ≡ mid ++ by Collector (act.CommitGc commit.Done ∷ [])) × ((after new).found ≡ [])
 committed_all z mid new reply h now black =
     let may = (subst (LegalFrom z (state_of mid)) (ap (by Collector) h.call.are) (legal_call z mid new Collector (act.CommitGc reply) h)).0.may in
     let done : reply ≡ commit.Done = commit_done (state_of mid) reply h.acts h.call may now.marking now.closed black in
@@ -196,7 +221,19 @@ committed_all z mid new reply h now black =
       record { legal = h.legal; alone = slices_closed z mid new Collector (act.CommitGc reply) h now.alone; gathering = ap (λ (s : State). s.world.phase) left },
       ap (λ (s : State). s.world.opened) left,
       h.grown ∙ ap (λ (acts : List Act). mid ++ by Collector acts) one,
+      ap (λ (s : State). s.world.found) left,
     )
+
+-- what there is of a collection where its sweeps were not made to their end
+pub goes_on_some : (z : Sizes) (budget : ℕ) (old mid later new : List Entry) → Marks z old mid budget → later ≡ mid ++ by Collector (act.CommitGc commit.Done ∷ []) → FindsSome z later new budget → GoesOnSome z budget old new
+goes_on_some z budget old mid later new marks committed finds = record {
+  slices = marks.slices;
+  sweeps = finds.sweeps;
+  marked = marks.marked;
+  swept = finds.swept;
+  grown = finds.grown ∙ ap (λ (h : List Entry). h ++ by Collector finds.sweeps) (committed ∙ ap (λ (h : List Entry). h ++ by Collector (act.CommitGc commit.Done ∷ [])) marks.grown);
+  legal = finds.legal;
+}
 
 -- a refusal opens and closes nothing
 pub refused_opened : (z : Sizes) (old new : List Entry) (why : Begin) → why ≢ begin.Started → Appends z old new Collector (act.BeginGc why) → (after new).opened ≡ (after old).opened
@@ -222,6 +259,10 @@ pieces old mid new a b c begins begun grown =
     ∙ ap (λ (h : List Entry). h ++ c) (append_assoc old (begins ++ a) b)
     ∙ append_assoc old ((begins ++ a) ++ b) c
 
+-- the first entry of these pieces says that the collection began
+begun_first : (acts : List Act) (of : List Name) (a b c : List Entry) → acts ≡ act.BeginGc begin.Started ∷ map act.Kept of → first_begin (((by Collector acts ++ a) ++ b) ++ c) ≡ begin.Started
+begun_first acts of a b c are = ap (λ (xs : List Act). first_begin (((by Collector xs ++ a) ++ b) ++ c)) are
+
 pub collects_all : (z : Sizes) (budget : ℕ) (old mid new : List Entry) (before between now : Holdings) (r : Reply) → Appends z old mid Collector (act.BeginGc begin.Started) → KeepsHeld before between → GoesOn z budget mid new between now r → Collects z budget old new before now r
 collects_all z budget old mid new before between now r h held on =
     let begins : List Entry = by Collector h.acts in
@@ -234,27 +275,58 @@ collects_all z budget old mid new before between now r h held on =
     record {
       piece = piece;
       grown = grown;
-      turn = inr (record {
+      calls = inr (record {
         begins = h.acts;
         slices = on.slices;
         sweeps = on.sweeps;
-        found = on.found;
-        names = on.names;
         begun = h.call;
         marked = subst (λ (s : State). SlicesUntilIdle s budget on.slices) (state_after z old mid Collector (act.BeginGc begin.Started) h) on.marked;
         swept = on.swept;
         are = refl;
-        same = on.same;
-        in_order = on.in_order;
-        answer = on.answer ∙ ap (λ (s : State). reply.FullGc (length on.found) (left_of s.world) on.names) left;
       });
+      answer = on.answer ∙ λ i. full_reply (left i).world (sym (begun_first h.acts h.call.of marks ends finds h.call.are) i);
       legal = on.legal;
       alone = on.alone;
       opened = on.opened ∙ (started_world z old mid h).1 ∙ sym (start_closed z old mid h);
       held = λ lane ref is. on.held lane ref (held lane ref is);
     }
 
+-- a collection that was begun and not told to its end
+pub collects_some : (z : Sizes) (budget : ℕ) (old mid new : List Entry) (names : Bindings) → Appends z old mid Collector (act.BeginGc begin.Started) → GoesOnSome z budget mid new → Broken z budget old new names who.Gc cmd.GcFull
+collects_some z budget old mid new names h on =
+    let begins : List Entry = by Collector h.acts in
+    let marks : List Entry = flat_map (by (Marker 0)) on.slices in
+    let ends : List Entry = by Collector (act.CommitGc commit.Done ∷ []) in
+    let finds : List Entry = by Collector on.sweeps in
+    record {
+      part = ((begins ++ marks) ++ ends) ++ finds;
+      grown = pieces old mid new marks ends finds begins h.grown on.grown;
+      made = go on.swept;
+      legal = on.legal;
+    }
+  where
+    part : List Entry
+    part = ((by Collector h.acts ++ flat_map (by (Marker 0)) on.slices) ++ by Collector (act.CommitGc commit.Done ∷ [])) ++ by Collector on.sweeps
+
+    marked : SlicesUntilIdle (run (state_of old) (by Collector h.acts)) budget on.slices
+    marked = subst (λ (s : State). SlicesUntilIdle s budget on.slices) (state_after z old mid Collector (act.BeginGc begin.Started) h) on.marked
+
+    go : SweepsMore budget on.sweeps ⊎ SweepsAll budget on.sweeps → IsPart budget (state_of old) who.Gc cmd.GcFull part ⊎ IsPiece budget (state_of old) names who.Gc cmd.GcFull part
+    go (inl more) = inl (inr (record { begins = h.acts; slices = on.slices; begun = h.call; calls = inr (inr (on.sweeps, marked, more, refl)) }))
+    go (inr all) = inr (inr (record { begins = h.acts; slices = on.slices; sweeps = on.sweeps; begun = h.call; marked = marked; swept = all; are = refl }))
+
+-- a refusal to begin is the first entry, and the only one
+pub refused_first : (s : State) (why : Begin) (acts : List Act) → why ≢ begin.Started → CallOf s Collector (act.BeginGc why) acts → first_begin (by Collector acts) ≡ why
+refused_first s begin.Started acts other call = absurd (other refl)
+refused_first s (begin.Running phase) acts other call = ap (λ (xs : List Act). first_begin (by Collector xs)) call
+refused_first s (begin.Purging left) acts other call = ap (λ (xs : List Act). first_begin (by Collector xs)) call
+refused_first s (begin.Frames n) acts other call = ap (λ (xs : List Act). first_begin (by Collector xs)) call
+
 -- what follows for a value that there may be
+pub each_err : {T E : Type 0} (P Q : Type 0) (r : Result T E) → (P → Q) → OnErr r P → OnErr r Q
+each_err P Q (Ok x) f h = tt
+each_err P Q (Err e) f h = f h
+
 pub each_ok : {T E : Type 0} (P Q : T → Type 0) (r : Result T E) → ((x : T) → P x → Q x) → IfOk r P → IfOk r Q
 each_ok P Q (Ok x) f h = f x h
 each_ok P Q (Err e) f h = tt

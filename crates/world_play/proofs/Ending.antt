@@ -1,8 +1,8 @@
 -- What an input that was read says of the whole of it.
-use Rattle.std.proofs.Common.{◌≡◌, ℕ, ◌≤◌, ◌+◌, Bool, true, false, List, [], ◌++◌, length, append-nil, refl, sym, ap, subst, ◌∙◌, Option, Some, None, Result, Err, arith}
+use Rattle.std.proofs.Common.{◌≡◌, ℕ, Bool, true, false, List, [], ◌∷◌, ◌++◌, length, take, drop, ◌⊎◌, inl, inr, refl, sym, ap, subst, ◌∙◌, Option, Some, None, Result, Ok, Err, arith}
 use Rattle.std.proofs.lemmas.Bool.Decides.{nat_tests}
-use Rattle.std.proofs.lemmas.List.{length-append}
-use Rattle.std.specs.Prelude.{nat_lt, IfSome}
+use Rattle.std.proofs.lemmas.List.{length-take, take_all, drop_all}
+use Rattle.std.specs.Prelude.{nat_lt}
 use Rattle.std.specs.Result.{result_ok, result_err}
 use Rattle.level_script.specs.Reading.{outcome_of, script_of, fault_of, fault_at, Reads}
 use Rattle.level_script.specs.declared.cause.Cause.TheVariants as cause
@@ -11,8 +11,24 @@ use Rattle.level_script.specs.declared.cause.ParseErr.TheVariants as parse
 use Rattle.level_script.specs.declared.cause.ScriptErr.{ScriptErr}
 use Rattle.level_script.specs.declared.limits.Limits.{Limits}
 use Rattle.level_script.specs.declared.script.Script.{Script}
-use Rattle.world_play.specs.Streams.{Read}
-use Rattle.world_play.specs.Ends.{level_limits, WasRead}
+use Rattle.world_play.specs.Streams.{Read, Gained}
+use Rattle.play_io.specs.Faults.{Rose}
+use Rattle.world_model.specs.Sizes.{level}
+use Rattle.world_model.specs.State.{State, beginning}
+use Rattle.world_model.specs.Next.{run}
+use Rattle.world_model.specs.Histories.{Legal}
+use Rattle.world_play.specs.Types.{Entry, Line}
+use Rattle.world_play.specs.Text.{text_of}
+use Rattle.world_play.specs.Plays.{Bindings, no_bindings, reply_in, Plays, text}
+use Rattle.world_play.specs.Outcome.{outcome}
+use Rattle.world_play.specs.Laws.{OneText}
+use Rattle.world_play.specs.Turns.{Stops, Played, Stopped}
+use Rattle.world_play.specs.Ends.{level_limits, history_of, IsScript, HasFault, WasTaken, Refuses, WritesFault, HasRun, WasPlayed, OnDone, OnStopped, Headline, EndsEarly, WritesOutcome, line_feeds, CountsLines, TellsScript}
+use Rattle.world_play.specs.declared.status.Status.{Status}
+use Rattle.world_play.specs.declared.status.Status.TheVariants as status
+use Rattle.world_play.specs.declared.run.Run.{Run}
+use Rattle.world_play.proofs.Lines.{feeds_append, is_line, one_feed, start_plain}
+use Rattle.world_play.proofs.Streams.{gained_none}
 
 long_outcome : (bytes : List ℕ) (limits : Limits) → nat_lt 16777216 (length bytes) ≡ true → outcome_of bytes limits ≡ Err (fault_at 0 cause.TooLong)
 unfolding outcome_of
@@ -26,33 +42,161 @@ long_script : (bytes : List ℕ) (limits : Limits) → nat_lt 16777216 (length b
 unfolding script_of
 long_script bytes limits t = ap (λ (r : Result Script ScriptErr). result_ok r) (long_outcome bytes limits t)
 
--- an input that is no longer than the limit was read to its end
-short_read : (xs v rest : List ℕ) → nat_lt 16777216 (length v) ≡ false → xs ≡ v ++ rest → (length v ≤ 16777216 → rest ≡ []) → (rest ≡ []) × (xs ≡ v)
-short_read xs v rest t cut short =
-    let none : rest ≡ [] = short (grind (arith, nat_tests, t)) in
-    (none, cut ∙ ap (λ (r : List ℕ). v ++ r) none ∙ append-nil v)
-
-pub read_script_of : (left now : Option (List ℕ)) (v : List ℕ) (script : Script) → Read left now 16777216 v → script_of v level_limits ≡ Some script → WasRead left now script
-read_script_of None now v script r e = tt
-read_script_of (Some xs) now v script (rest, is, cut, short) e = go (nat_lt 16777216 (length v)) refl
+-- what was read of an input is all of it, or is as much too long as the input is
+pub read_of : (xs v : List ℕ) (limits : Limits) → v ≡ take 16777217 xs → (v ≡ xs) ⊎ ((nat_lt 16777216 (length v) ≡ true) × (nat_lt 16777216 (length xs) ≡ true))
+read_of xs v limits is = go (nat_lt 16777216 (length xs)) refl
   where
-    go : (b : Bool) → nat_lt 16777216 (length v) ≡ b → (script_of xs level_limits ≡ Some script) × (now ≡ Some [])
-    go true t = absurd (let long = long_script v level_limits t in cc)
-    go false t =
-        let parts = short_read xs v rest t cut short in
-        (ap (λ (b : List ℕ). script_of b level_limits) parts.1 ∙ e, is ∙ ap (λ (r : List ℕ). Some r) parts.0)
-
-pub read_fault_of : (left now : Option (List ℕ)) (v : List ℕ) (fault : ScriptErr) → Read left now 16777216 v → fault_of v level_limits ≡ Some fault → IfSome left (λ input. fault_of input level_limits ≡ Some fault)
-read_fault_of None now v fault r e = tt
-read_fault_of (Some xs) now v fault (rest, is, cut, short) e = go (nat_lt 16777216 (length v)) refl
-  where
-    go : (b : Bool) → nat_lt 16777216 (length v) ≡ b → fault_of xs level_limits ≡ Some fault
+    go : (b : Bool) → nat_lt 16777216 (length xs) ≡ b → (v ≡ xs) ⊎ ((nat_lt 16777216 (length v) ≡ true) × (nat_lt 16777216 (length xs) ≡ true))
     go true t =
-        let more : length xs ≡ length v + length rest = ap length cut ∙ length-append v rest in
-        let long : nat_lt 16777216 (length xs) ≡ true = grind (arith, nat_tests, t, more) in
-        long_fault xs level_limits long ∙ sym (long_fault v level_limits t) ∙ e
-    go false t = ap (λ (b : List ℕ). fault_of b level_limits) (short_read xs v rest t cut short).1 ∙ e
+        let count : length v ≡ length (take 16777217 xs) = ap length is in
+        let long : nat_lt 16777216 (length v) ≡ true = grind (arith, nat_tests, t, count, length-take 16777217 xs) in
+        inr (long, t)
+    go false t = inl (is ∙ take_all 16777217 xs (grind (arith, nat_tests, t)))
+
+-- nothing is left of an input that is no longer than the limit
+pub nothing_left : (xs : List ℕ) (script : Script) (limits : Limits) → script_of xs limits ≡ Some script → drop 16777217 xs ≡ []
+nothing_left xs script limits e = go (nat_lt 16777216 (length xs)) refl
+  where
+    go : (b : Bool) → nat_lt 16777216 (length xs) ≡ b → drop 16777217 xs ≡ []
+    go true t = absurd (let long = long_script xs limits t in cc)
+    go false t = drop_all 16777217 xs (grind (arith, nat_tests, t))
+
+pub read_script_of : (left now : Option (List ℕ)) (v : List ℕ) (script : Script) → Read left now 16777216 v → script_of v level_limits ≡ Some script → IsScript left script
+read_script_of None now v script r e = tt
+read_script_of (Some xs) now v script (is, rest) e = go (read_of xs v level_limits is)
+  where
+    go : (v ≡ xs) ⊎ ((nat_lt 16777216 (length v) ≡ true) × (nat_lt 16777216 (length xs) ≡ true)) → script_of xs level_limits ≡ Some script
+    go (inl same) = ap (λ (b : List ℕ). script_of b level_limits) (sym same) ∙ e
+    go (inr (long, longer)) = absurd (let none = long_script v level_limits long in cc)
+
+pub read_fault_of : (left now : Option (List ℕ)) (v : List ℕ) (fault : ScriptErr) → Read left now 16777216 v → fault_of v level_limits ≡ Some fault → HasFault left fault
+read_fault_of None now v fault r e = tt
+read_fault_of (Some xs) now v fault (is, rest) e = go (read_of xs v level_limits is)
+  where
+    go : (v ≡ xs) ⊎ ((nat_lt 16777216 (length v) ≡ true) × (nat_lt 16777216 (length xs) ≡ true)) → fault_of xs level_limits ≡ Some fault
+    go (inl same) = ap (λ (b : List ℕ). fault_of b level_limits) (sym same) ∙ e
+    go (inr (long, longer)) = long_fault xs level_limits longer ∙ sym (long_fault v level_limits long) ∙ e
+
+pub taken_of : (left now : Option (List ℕ)) (v : List ℕ) → Read left now 16777216 v → WasTaken left now
+taken_of None now v r = tt
+taken_of (Some xs) now v r = r.1
 
 -- the reader's answer names the fault
 pub fault_said : (bytes : List ℕ) (limits : Limits) (e : ParseErr) (fault : ScriptErr) → e ≡ parse.Bad fault → Reads bytes limits (Err e) → fault_of bytes limits ≡ Some fault
 fault_said bytes limits e fault is said = subst (λ (x : ParseErr). Reads bytes limits (Err x)) is said
+
+-- an input is not both a script and faulty
+pub not_both : (bytes : List ℕ) (limits : Limits) (script : Script) (fault : ScriptErr) → script_of bytes limits ≡ Some script → fault_of bytes limits ≡ Some fault → ⊥
+unfolding script_of fault_of
+not_both bytes limits script fault is said = go (outcome_of bytes limits) is said
+  where
+    go : (r : Result Script ScriptErr) → result_ok r ≡ Some script → result_err r ≡ Some fault → ⊥
+    go (Ok x) a b = cc
+    go (Err e) a b = cc
+
+-- ---- the text of lines that were played
+
+-- the text of lines has one line feed for each
+pub text_feeds : (budget : ℕ) (s : State) (names last : Bindings) (lines : List Line) (pieces : List (List Entry)) → Plays budget s names lines pieces last → line_feeds (text s lines pieces) ≡ length lines
+unfolding Plays text
+text_feeds budget s names last [] [] plays = refl
+text_feeds budget s names last (l ∷ lines) (p ∷ pieces) plays =
+    let first : line_feeds (text_of (reply_in s l.who p)) ≡ 1 = one_feed _ (is_line (reply_in s l.who p)) in
+    let rest : line_feeds (text (run s p) lines pieces) ≡ length lines = text_feeds budget (run s p) _ last lines pieces plays.1 in
+    omega (arith, first, rest, feeds_append (text_of (reply_in s l.who p)) (text (run s p) lines pieces))
+text_feeds budget s names last [] (p ∷ pieces) plays = absurd plays
+text_feeds budget s names last (l ∷ lines) [] plays = absurd plays
+
+-- a beginning of a reply has none
+stops_plain : (budget : ℕ) (s : State) (names : Bindings) (rest : List Line) (part : List Entry) (some : List ℕ) → Stops budget s names rest part some → line_feeds some ≡ 0
+stops_plain budget s names [] part some h = ap line_feeds h.1
+stops_plain budget s names (l ∷ ls) part some (inl (made, none)) = ap line_feeds none
+stops_plain budget s names (l ∷ ls) part some (inr (made, start)) = start_plain some _ start (is_line (reply_in s l.who part))
+
+-- so the number of replies that were put is that of the line feeds
+counts_gained : (had has : Option (List ℕ)) (bytes : List ℕ) (count : ℕ) → Gained had has bytes → count ≡ line_feeds bytes → CountsLines had has count
+counts_gained None has bytes count put e = tt
+counts_gained (Some xs) has bytes count put e = (bytes, put, e)
+
+counts_none : (had has : Option (List ℕ)) (count : ℕ) → has ≡ had → count ≡ 0 → CountsLines had has count
+counts_none had has count same none = counts_gained had has [] count (subst (λ (now : Option (List ℕ)). Gained had now []) (sym same) (gained_none had)) none
+
+counts_all : (lines : List Line) (history : List Entry) (had has : Option (List ℕ)) (count : ℕ) → Played level 1000 lines history had has → count ≡ length lines → CountsLines had has count
+counts_all lines history had has count h number = counts_gained had has (text beginning lines h.pieces) count h.put (number ∙ sym (text_feeds 1000 beginning no_bindings h.last lines h.pieces h.plays))
+
+counts_some : (lines : List Line) (history : List Entry) (had has : Option (List ℕ)) (count : ℕ) → Stopped level 1000 lines history had has count → CountsLines had has count
+counts_some lines history had has count h =
+    let whole : line_feeds (text beginning h.whole h.pieces) ≡ length h.whole = text_feeds 1000 beginning no_bindings h.names h.whole h.pieces h.plays in
+    let rest : line_feeds h.some ≡ 0 = stops_plain 1000 _ h.names h.rest h.part h.some h.stops in
+    counts_gained had has (text beginning h.whole h.pieces ++ h.some) count h.put (omega (arith, h.number, whole, rest, feeds_append (text beginning h.whole h.pieces) h.some))
+
+-- ---- what a run that played says of the whole of it
+
+pub counts_of : (how : Status) (lines : List Line) (r : Option Run) (had has : Option (List ℕ)) (count : ℕ) → WasPlayed how lines r had has count → CountsLines had has count
+counts_of how lines None had has count h = counts_none had has count h.0 h.1
+counts_of status.Ok lines (Some engine) had has count h = counts_all lines _ had has count h.0 h.1
+counts_of status.Usage lines (Some engine) had has count h = counts_some lines _ had has count h
+counts_of (status.Script fault) lines (Some engine) had has count h = counts_some lines _ had has count h
+counts_of status.ReadFault lines (Some engine) had has count h = counts_some lines _ had has count h
+counts_of status.WriteFault lines (Some engine) had has count h = counts_some lines _ had has count h
+counts_of status.Memory lines (Some engine) had has count h = counts_some lines _ had has count h
+
+-- a run that played nothing
+pub counts_unplayed : (held : Option (List ℕ)) (count : ℕ) → count ≡ 0 → CountsLines held held count
+counts_unplayed held count none = counts_none held held count refl none
+
+pub headline_of : (how : Status) (left now : Option (List ℕ)) (script : Script) (r : Option Run) (had has : Option (List ℕ)) (count : ℕ) → IsScript left script → WasTaken left now → WasPlayed how script.lines r had has count → OnDone how (Headline left now had has r)
+headline_of status.Ok None now script r had has count is taken h = tt
+headline_of status.Ok (Some input) now script None had has count is taken h = tt
+headline_of status.Ok (Some input) now script (Some engine) had has count is taken h = (script, is, taken ∙ ap (λ (xs : List ℕ). Some xs) (nothing_left input script level_limits is), h.0)
+headline_of status.Usage left now script r had has count is taken h = tt
+headline_of (status.Script fault) left now script r had has count is taken h = tt
+headline_of status.ReadFault left now script r had has count is taken h = tt
+headline_of status.WriteFault left now script r had has count is taken h = tt
+headline_of status.Memory left now script r had has count is taken h = tt
+
+outcome_played : OneText → (lines : List Line) (history : List Entry) (had has : Option (List ℕ)) → Played level 1000 lines history had has → Gained had has (outcome level lines)
+outcome_played law lines history had has h = subst (Gained had has) (law level 1000 lines h.pieces h.last (subst (Legal level) h.cut h.legal) h.plays) h.put
+
+pub outcome_of_run : OneText → (how : Status) (left : Option (List ℕ)) (script : Script) (r : Option Run) (had has : Option (List ℕ)) (count : ℕ) → IsScript left script → HasRun how r → WasPlayed how script.lines r had has count → OnDone how (WritesOutcome left had has)
+outcome_of_run law status.Ok None script r had has count is there h = tt
+outcome_of_run law status.Ok (Some input) script None had has count is there h = absurd (there refl)
+outcome_of_run law status.Ok (Some input) script (Some engine) had has count is there h = (script, is, outcome_played law script.lines _ had has h.0)
+outcome_of_run law status.Usage left script r had has count is there h = tt
+outcome_of_run law (status.Script fault) left script r had has count is there h = tt
+outcome_of_run law status.ReadFault left script r had has count is there h = tt
+outcome_of_run law status.WriteFault left script r had has count is there h = tt
+outcome_of_run law status.Memory left script r had has count is there h = tt
+
+ends_early : (left : Option (List ℕ)) (script : Script) (engine : Run) (had has : Option (List ℕ)) (count : ℕ) → IsScript left script → Stopped level 1000 script.lines (history_of engine) had has count → EndsEarly left had has count engine
+ends_early None script engine had has count is h = tt
+ends_early (Some input) script engine had has count is h = (script, is, h)
+
+pub early_of : (how : Status) (left : Option (List ℕ)) (script : Script) (r : Option Run) (had has : Option (List ℕ)) (count : ℕ) → IsScript left script → WasPlayed how script.lines r had has count → OnStopped how r (EndsEarly left had has count)
+early_of status.Ok left script r had has count is h = tt
+early_of status.Usage left script r had has count is h = tt
+early_of (status.Script fault) left script r had has count is h = tt
+early_of status.ReadFault left script r had has count is h = tt
+early_of status.WriteFault left script None had has count is h = tt
+early_of status.WriteFault left script (Some engine) had has count is h = ends_early left script engine had has count is h
+early_of status.Memory left script None had has count is h = tt
+early_of status.Memory left script (Some engine) had has count is h = ends_early left script engine had has count is h
+
+-- where a script was read, the status is Ok but for a fault of the sink, or want of memory
+pub completes_played : (how : Status) (before now : ℕ) → WritesFault before now how → ¬ Rose before now → (how ≡ status.Ok) ⊎ (how ≡ status.Memory)
+completes_played status.Ok before now h quiet = inl refl
+completes_played status.Usage before now h quiet = absurd h
+completes_played (status.Script fault) before now h quiet = absurd h
+completes_played status.ReadFault before now h quiet = absurd h
+completes_played status.WriteFault before now h quiet = absurd (quiet h)
+completes_played status.Memory before now h quiet = inr refl
+
+-- where none was read of an input that is one, there was a fault of the source, or no memory
+pub completes_unread : (how : Status) (left rest : Option (List ℕ)) (before now : ℕ) → Refuses left rest before now how → TellsScript left → ¬ Rose before now → (how ≡ status.Ok) ⊎ (how ≡ status.Memory)
+completes_unread status.Ok left rest before now h told quiet = inl refl
+completes_unread status.Usage left rest before now h told quiet = absurd h
+completes_unread (status.Script fault) None rest before now h told quiet = absurd told
+completes_unread (status.Script fault) (Some input) rest before now h told quiet = absurd (not_both input level_limits told.0 fault told.1 h.0)
+completes_unread status.ReadFault left rest before now h told quiet = absurd (quiet h)
+completes_unread status.WriteFault left rest before now h told quiet = absurd h
+completes_unread status.Memory left rest before now h told quiet = inr refl

@@ -1,6 +1,11 @@
+pub mod Order
+pub mod Different
+pub mod Removing
+pub mod Telling
+pub mod Lines
+pub mod Streams
 pub mod Keeping
 pub mod Turning
 pub mod Collecting
 pub mod Playing
-pub mod Streams
 pub mod Ending

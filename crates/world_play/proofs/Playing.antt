@@ -1,14 +1,14 @@
 -- A script is played line by line.
-use Rattle.std.proofs.Common.{◌≡◌, ℕ, ◌+◌, ◌<◌, Bool, true, false, List, [], ◌∷◌, ◌++◌, append_assoc, append-nil, length, flat_map, drop, drop-cons, get_or, set, replicate, ◌==◌, cond, zero, suc, add-one, refl, sym, ap, ◌∙◌, subst, arith}
+use Rattle.std.proofs.Common.{◌≡◌, ℕ, ◌+◌, ◌<◌, Bool, true, false, List, [], ◌∷◌, ◌++◌, append_assoc, append-nil, length, take, drop, drop-cons, get_or, set, replicate, ◌==◌, cond, zero, suc, add-one, refl, sym, ap, ◌∙◌, subst, arith, inl, inr, ◌⊎◌, Option}
 use Rattle.std.specs.Prelude.{nat_lt, slice_index}
 use Rattle.std.proofs.lemmas.Bool.Decides.{nat_tests}
-use Rattle.std.proofs.lemmas.List.{set-get_or, length-set}
+use Rattle.std.proofs.lemmas.List.{set-get_or, length-set, length-take, take-append-drop}
 use Rattle.std.proofs.lemmas.Grind.{flat_map-append}
 use Rattle.world_play.specs.Text.{text_of}
 use Rattle.world_model.specs.Sizes.{Sizes}
-use Rattle.world_model.specs.State.{State}
+use Rattle.world_model.specs.State.{State, beginning}
 use Rattle.world_model.specs.Next.{run}
-use Rattle.world_model.specs.Histories.{after}
+use Rattle.world_model.specs.Histories.{state_of, after, Legal}
 use Rattle.world_model.specs.Engines.{Holdings}
 use Rattle.world_model.proofs.Joins.{run-append}
 use Rattle.world_model.proofs.ListFacts.{and_true}
@@ -16,19 +16,22 @@ use Rattle.world_play.specs.Types.{Entry, Reply, Line, Who, Cmd}
 use Rattle.world_play.specs.Types.who
 use Rattle.world_play.specs.Types.cmd
 use Rattle.level_script.specs.Frames as frame
-use Rattle.level_script.specs.Frames.{opened_after, fits_lane, are_framed}
-use Rattle.world_play.specs.Plays.{Bindings, Turn, Plays, fits_by, fits, frames_by, frames_after, are_fit}
-use Rattle.world_play.specs.Variables.{numbers_of, AreKept}
-use Rattle.world_play.specs.Turns.{frames_of, Turned}
+use Rattle.level_script.specs.Frames.{opened_after, fits_lane, fits_gc, are_framed}
+use Rattle.world_play.specs.Plays.{Bindings, no_bindings, reply_in, names_after, IsPiece, IsPart, TurnBy, Plays, text, entries_of, fits_by, fits, frames_by, frames_after, are_fit}
+use Rattle.world_play.specs.Streams.{Gained, GainedStart, IsStart}
+use Rattle.world_play.specs.Variables.{shown, numbers_of, AreKept}
+use Rattle.world_play.specs.Turns.{frames_of, Turned, Broken, Stops, Unanswered, Stopped}
 use Rattle.world_play.specs.Stages.{Collects}
 use Rattle.world_play.specs.declared.variables.LaneVariables.{LaneVariables}
 use Rattle.world_play.proofs.Keeping.{kept_on}
+use Rattle.world_play.proofs.Streams.{gained_none, gained_both}
+use Rattle.world_play.proofs.Lines.{start_none}
 
 -- a whole collection is a line of the collector
 pub gc_turned : (z : Sizes) (budget : ℕ) (old new : List Entry) (before now : Holdings) (lanes : List LaneVariables) (played classes : ℕ) (what : Cmd) (r : Reply) → fits_by z.lanes (numbers_of lanes) classes (frames_of (after old)) who.Gc what ≡ true → AreKept before lanes played
     → Collects z budget old new before now r → Turned z budget old new now lanes lanes played who.Gc what r
 gc_turned z budget old new before now lanes played classes cmd.GcFull r fit kept h = record {
-  turn = (h.piece, h.grown, (h.turn, refl));
+  turn = (h.piece, h.grown, (h.calls, h.answer, refl));
   frames = ap (λ opened. frames_of (record (after new) { opened = opened })) h.opened;
   numbers = refl;
   legal = h.legal;
@@ -37,37 +40,119 @@ gc_turned z budget old new before now lanes played classes cmd.GcFull r fit kept
 }
 gc_turned z budget old new before now lanes played classes what r fit kept h = absurd cc
 
+-- so is one that was not told to its end
+pub gc_broken : (z : Sizes) (budget : ℕ) (old new : List Entry) (names : Bindings) (what : Cmd) → fits_gc what ≡ true → Broken z budget old new names who.Gc cmd.GcFull → Broken z budget old new names who.Gc what
+gc_broken z budget old new names cmd.GcFull fit h = h
+gc_broken z budget old new names what fit h = absurd cc
+
 -- ---- line after line
 
-pub plays_none : (budget : ℕ) (s : State) (names : Bindings) → Plays budget s names [] [] [] names
+pub plays_none : (budget : ℕ) (s : State) (names : Bindings) → Plays budget s names [] [] names
 unfolding Plays
-plays_none budget s names = (refl, refl, refl)
+plays_none budget s names = refl
 
-pub plays_more : (budget : ℕ) (s : State) (names mid new : Bindings) (ls : List Line) (l : Line) (h piece : List Entry) (rs : List Reply) (r : Reply)
-    → Plays budget s names ls h rs mid → Turn budget (run s h) mid l piece r new → Plays budget s names (ls ++ l ∷ []) (h ++ piece) (rs ++ r ∷ []) new
+pub plays_more : (budget : ℕ) (s : State) (names mid new : Bindings) (ls : List Line) (l : Line) (ps : List (List Entry)) (p : List Entry) (r : Reply)
+    → Plays budget s names ls ps mid → TurnBy budget (run s (entries_of ps)) mid l.who l.cmd p r new → Plays budget s names (ls ++ l ∷ []) (ps ++ p ∷ []) new
 unfolding Plays
-plays_more budget s names mid new [] l h piece rs r was turn = (
-  new,
-  piece,
-  [],
-  r,
-  [],
-  subst (λ (n : Bindings). Turn budget s n l piece r new) was.2 (subst (λ (x : List Entry). Turn budget (run s x) mid l piece r new) was.0 turn),
-  ap (λ (x : List Entry). x ++ piece) was.0 ∙ sym (append-nil piece),
-  ap (λ (x : List Reply). x ++ r ∷ []) was.1,
-  (refl, refl, refl),
-)
-plays_more budget s names mid new (x ∷ xs) l h piece rs r (one, head, rest, reply, others, first, eh, ers, tail) turn = (
-  one,
-  head,
-  rest ++ piece,
-  reply,
-  others ++ r ∷ [],
-  first,
-  ap (λ (y : List Entry). y ++ piece) eh ∙ append_assoc head rest piece,
-  ap (λ (y : List Reply). y ++ r ∷ []) ers,
-  plays_more budget (run s head) one mid new xs l rest piece others r tail (subst (λ (t : State). Turn budget t mid l piece r new) (ap (run s) eh ∙ run-append s head rest) turn),
-)
+plays_more budget s names mid new [] l [] p r was turn = (subst (λ (n : Bindings). IsPiece budget s n l.who l.cmd p) was turn.0, turn.2 ∙ λ i. names_after (was i) l.who l.cmd (turn.1 i))
+plays_more budget s names mid new (x ∷ xs) l (q ∷ ps) p r was turn =
+    (was.0, plays_more budget (run s q) _ mid new xs l ps p r was.1 (subst (λ (t : State). TurnBy budget t mid l.who l.cmd p r new) (run-append s q (entries_of ps)) turn))
+plays_more budget s names mid new [] l (q ∷ ps) p r was turn = absurd was
+plays_more budget s names mid new (x ∷ xs) l [] p r was turn = absurd was
+
+-- the text of one more line
+pub text_more : (budget : ℕ) (s : State) (names mid : Bindings) (ls : List Line) (l : Line) (ps : List (List Entry)) (p : List Entry) → Plays budget s names ls ps mid
+    → text s (ls ++ l ∷ []) (ps ++ p ∷ []) ≡ text s ls ps ++ text_of (reply_in (run s (entries_of ps)) l.who p)
+unfolding Plays text
+text_more budget s names mid [] l [] p was = append-nil _
+text_more budget s names mid (x ∷ xs) l (q ∷ ps) p was =
+    ap (λ (t : List ℕ). text_of (reply_in s x.who q) ++ t) (text_more budget (run s q) _ mid xs l ps p was.1)
+    ∙ sym (append_assoc (text_of (reply_in s x.who q)) (text (run s q) xs ps) (text_of (reply_in (run (run s q) (entries_of ps)) l.who p)))
+    ∙ ap (λ (t : State). (text_of (reply_in s x.who q) ++ text (run s q) xs ps) ++ text_of (reply_in t l.who p)) (sym (run-append s q (entries_of ps)))
+text_more budget s names mid [] l (q ∷ ps) p was = absurd was
+text_more budget s names mid (x ∷ xs) l [] p was = absurd was
+
+-- the entries of one more piece
+pub entries_more : (ps : List (List Entry)) (p : List Entry) → entries_of (ps ++ p ∷ []) ≡ entries_of ps ++ p
+entries_more ps p = flat_map-append (λ q. q) ps (p ∷ []) ∙ ap (λ (es : List Entry). entries_of ps ++ es) (append-nil p)
+
+-- ---- lines that are not played to their end
+
+-- no call of a line was made
+no_part : (budget : ℕ) (s : State) (w : Who) (what : Cmd) → IsPart budget s w what []
+no_part budget s who.Gc cmd.GcFull = inl refl
+no_part budget s who.Gc cmd.Open = refl
+no_part budget s who.Gc cmd.Close = refl
+no_part budget s who.Gc (cmd.New var class) = refl
+no_part budget s who.Gc (cmd.Root var on) = refl
+no_part budget s (who.Lane lane) what = refl
+
+pub stops_none : (budget : ℕ) (s : State) (names : Bindings) (lines : List Line) → Stops budget s names lines [] []
+stops_none budget s names [] = (refl, refl)
+stops_none budget s names (l ∷ ls) = inl (no_part budget s l.who l.cmd, refl)
+
+-- a line of which some calls were made, or all, and whose reply was not put
+pub breaks : (z : Sizes) (budget : ℕ) (old new : List Entry) (names : Bindings) (l : Line) (held : Option (List ℕ)) → Broken z budget old new names l.who l.cmd → Unanswered z budget old new names l held held
+breaks z budget old new names l held h = record { part = h.part; some = []; grown = h.grown; stops = go h.made; legal = h.legal; put = gained_none held }
+  where
+    go : IsPart budget (state_of old) l.who l.cmd h.part ⊎ IsPiece budget (state_of old) names l.who l.cmd h.part → Stops budget (state_of old) names (l ∷ []) h.part []
+    go (inl part) = inl (part, refl)
+    go (inr piece) = inr (piece, start_none _)
+
+-- a line all of whose calls were made
+pub turned_broken : (z : Sizes) (budget : ℕ) (old new : List Entry) (holds : Holdings) (before now : List LaneVariables) (played : ℕ) (w : Who) (what : Cmd) (r : Reply) → Turned z budget old new holds before now played w what r → Broken z budget old new (shown before) w what
+turned_broken z budget old new holds before now played w what r t = record { part = t.turn.0; grown = t.turn.1; made = inr t.turn.2.0; legal = t.legal }
+
+-- a line whose reply was put in part
+pub puts_part : (z : Sizes) (budget : ℕ) (old new : List Entry) (holds : Holdings) (before now : List LaneVariables) (played : ℕ) (l : Line) (r : Reply) (had has : Option (List ℕ))
+    → Turned z budget old new holds before now played l.who l.cmd r → GainedStart had has (text_of r) → Unanswered z budget old new (shown before) l had has
+puts_part z budget old new holds before now played l r had has t g = record {
+  part = t.turn.0;
+  some = g.0;
+  grown = t.turn.1;
+  stops = inr (t.turn.2.0, subst (λ (q : Reply). IsStart g.0 (text_of q)) t.turn.2.1 g.1);
+  legal = t.legal;
+  put = g.2;
+}
+
+-- the first lines were played, and the next one was not answered
+pub stopped_at : (z : Sizes) (budget : ℕ) (lines : List Line) (i : ℕ) (d : Line) (pieces : List (List Entry)) (names : Bindings) (old new : List Entry) (had mid has : Option (List ℕ)) (count : ℕ) → i < length lines
+    → Plays budget beginning no_bindings (take i lines) pieces names → old ≡ entries_of pieces → Gained had mid (text beginning (take i lines) pieces) → count ≡ i
+    → Unanswered z budget old new names (get_or lines i d) mid has → Stopped z budget lines new had has count
+stopped_at z budget lines i d pieces names old new had mid has count inside plays cut put number h = record {
+  whole = take i lines;
+  rest = get_or lines i d ∷ drop (suc i) lines;
+  pieces = pieces;
+  part = h.part;
+  names = names;
+  some = h.some;
+  legal = h.legal;
+  are = sym (take-append-drop i lines) ∙ ap (λ (ls : List Line). take i lines ++ ls) (drop-cons lines i d inside);
+  cut = h.grown ∙ ap (λ (es : List Entry). es ++ h.part) cut;
+  plays = plays;
+  stops = subst (λ (es : List Entry). Stops budget (state_of es) names (get_or lines i d ∷ drop (suc i) lines) h.part h.some) cut h.stops;
+  put = gained_both had mid has (text beginning (take i lines) pieces) h.some put h.put;
+  number = omega (arith, number, length-take i lines);
+}
+
+-- nothing was played
+pub stopped_first : (z : Sizes) (budget : ℕ) (lines : List Line) (history : List Entry) (held : Option (List ℕ)) (count : ℕ) → history ≡ [] → count ≡ 0 → Stopped z budget lines history held held count
+unfolding text
+stopped_first z budget lines history held count none zero_lines = record {
+  whole = [];
+  rest = lines;
+  pieces = [];
+  part = [];
+  names = no_bindings;
+  some = [];
+  legal = subst (Legal z) (sym none) tt;
+  are = refl;
+  cut = none;
+  plays = plays_none budget beginning no_bindings;
+  stops = stops_none budget beginning no_bindings lines;
+  put = gained_none held;
+  number = zero_lines;
+}
 
 pub fit_first : (lanes : ℕ) (vars : List ℕ) (classes : ℕ) (opened : ℕ → Bool) (l : Line) (ls : List Line) → are_fit lanes vars classes opened (l ∷ ls) ≡ true → (fits lanes vars classes opened l ≡ true) × (are_fit lanes vars classes (frames_after opened l) ls ≡ true)
 unfolding are_fit
@@ -76,10 +161,6 @@ fit_first lanes vars classes opened l ls e = and_true (fits lanes vars classes o
 pub fit_at : (lanes : ℕ) (vars : List ℕ) (classes : ℕ) (opened : ℕ → Bool) (ls : List Line) (i : ℕ) (d : Line) → i < length ls → are_fit lanes vars classes opened (drop i ls) ≡ true
     → (fits lanes vars classes opened (get_or ls i d) ≡ true) × (are_fit lanes vars classes (frames_after opened (get_or ls i d)) (drop (i + 1) ls) ≡ true)
 fit_at lanes vars classes opened ls i d h e = rw add-one (fit_first lanes vars classes opened (get_or ls i d) _ (sym (ap (are_fit lanes vars classes opened) (drop-cons ls i d h)) ∙ e))
-
--- the text of one more reply
-pub text_more : (rs : List Reply) (r : Reply) → flat_map text_of (rs ++ r ∷ []) ≡ flat_map text_of rs ++ text_of r
-text_more rs r = flat_map-append text_of rs (r ∷ []) ∙ ap (λ (t : List ℕ). flat_map text_of rs ++ t) (append-nil (text_of r))
 
 -- ---- the frames of a script
 

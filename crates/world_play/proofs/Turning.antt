@@ -8,14 +8,13 @@ use Rattle.world_model.specs.NameLists.{same_pass, set_at}
 use Rattle.world_model.specs.State.{State}
 use Rattle.world_model.specs.Next.{run}
 use Rattle.world_model.specs.Histories.{state_of, after}
-use Rattle.world_model.specs.Calls.{by, StoresAlone, Appends}
+use Rattle.world_model.specs.Calls.{by, CallOf, StoresAlone, Appends}
 use Rattle.world_model.specs.Engines.{act_of_refusal}
 use Rattle.world_model.proofs.Solo.{state_after, state_after_one}
 use Rattle.world_play.specs.Types.{Name, Ref, Kind, CreateErr, Pass, Lane, Marker, Collector, Phase, Act, Entry}
 use Rattle.world_play.specs.Types.act
 use Rattle.world_play.specs.Types.create
-use Rattle.world_play.specs.Types.reply
-use Rattle.world_play.specs.Plays.{OneCall, SetsObject}
+use Rattle.world_play.specs.Plays.{OneCall, SetsObject, closing, lane_reply, object_of}
 use Rattle.world_play.specs.Turns.{frames_of}
 use Rattle.world_play.specs.Variables.{numbers_of}
 use Rattle.world_play.specs.declared.variables.LaneVariables.{LaneVariables}
@@ -99,8 +98,31 @@ first_name [] d n e = absurd cc
 first_name (r ∷ rs) d n e = cc
 
 -- a variable that stands for nothing, and one that stands for an object
-pub no_object : (z : State) (lane : ℕ) (o : Option Name) (on : Bool) → o ≡ None → SetsObject z lane o on [] (reply.NoObject lane)
-no_object z lane o on e = subst (λ (p : Option Name). SetsObject z lane p on [] (reply.NoObject lane)) (sym e) (refl, refl)
+pub no_object : (z : State) (lane : ℕ) (o : Option Name) (on : Bool) → o ≡ None → SetsObject z lane o on []
+no_object z lane o on e = subst (λ (p : Option Name). SetsObject z lane p on []) (sym e) refl
 
-pub an_object : (z : State) (lane : ℕ) (o : Option Name) (on was : Bool) (n : Name) (piece : List Entry) → o ≡ Some n → OneCall z (Lane lane) (act.Root n on was) piece → SetsObject z lane o on piece (reply.WasRoot lane was)
-an_object z lane o on was n piece e call = subst (λ (p : Option Name). SetsObject z lane p on piece (reply.WasRoot lane was)) (sym e) (was, call, refl)
+pub an_object : (z : State) (lane : ℕ) (o : Option Name) (on was : Bool) (n : Name) (piece : List Entry) → o ≡ Some n → OneCall z (Lane lane) (act.Root n on was) piece → SetsObject z lane o on piece
+an_object z lane o on was n piece e call = subst (λ (p : Option Name). SetsObject z lane p on piece) (sym e) (was, call)
+
+-- ---- what the piece of a call answers
+
+pub said_alone : (lane : ℕ) (a : Act) (acts : List Act) → acts ≡ a ∷ [] → lane_reply lane (Some a) ≡ lane_reply lane (closing (by (Lane lane) acts))
+said_alone lane a acts e = ap (λ (xs : List Act). lane_reply lane (closing (by (Lane lane) xs))) (sym e)
+
+pub said_stored : (lane : ℕ) (a : Act) (acts : List Act) → StoresAlone a acts → lane_reply lane (Some a) ≡ lane_reply lane (closing (by (Lane lane) acts))
+said_stored lane a acts (inl one) = said_alone lane a acts one
+said_stored lane a acts (inr noted) = ap (λ (xs : List Act). lane_reply lane (closing (by (Lane lane) xs))) (sym noted.1)
+
+pub said_refused : (z : State) (lane asked : ℕ) (why : CreateErr) (acts : List Act) → CallOf z (Lane lane) (act_of_refusal asked why) acts → lane_reply lane (Some (act_of_refusal asked why)) ≡ lane_reply lane (closing (by (Lane lane) acts))
+said_refused z lane asked (create.Full free) acts call = said_alone lane _ acts call
+said_refused z lane asked (create.NamesSpent left) acts call = said_alone lane _ acts call
+
+-- a refusal gives no object
+pub refused_none : (lane asked : ℕ) (why : CreateErr) → object_of (lane_reply lane (Some (act_of_refusal asked why))) ≡ None
+refused_none lane asked (create.Full free) = refl
+refused_none lane asked (create.NamesSpent left) = refl
+
+-- the reply to a refusal does not tell how many were asked for
+pub refused_alike : (lane asked other : ℕ) (why : CreateErr) → lane_reply lane (Some (act_of_refusal asked why)) ≡ lane_reply lane (Some (act_of_refusal other why))
+refused_alike lane asked other (create.Full free) = refl
+refused_alike lane asked other (create.NamesSpent left) = refl

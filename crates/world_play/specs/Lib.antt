@@ -1,6 +1,8 @@
 pub mod Types
-pub mod Plays
 pub mod Text
+pub mod Plays
+pub mod Outcome
+pub mod Laws
 pub mod Streams
 pub mod Variables
 pub mod Turns

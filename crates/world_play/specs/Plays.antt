@@ -1,19 +1,17 @@
 -- What it is to play a script: its history is cut into one piece for each line.
 use Rattle.std.specs.Prelude.{◌≡◌, ◌≢◌, ℕ, nat_lt, Bool, true, false, ◌&&◌, ◌⊎◌, List, [], ◌∷◌, ◌++◌, length, flat_map, slice_index, Option, Some, None}
-use Rattle.std.specs.List.Sorted.{IsPermutation, IsSorted}
-use Rattle.std.specs.Ordering.{nat_cmp, on, then_cmp}
-use Rattle.std.specs.declared.cmp.Ordering.{Ordering}
 use Rattle.world_play.specs.Types.{Name, Phase, Kind, CreateErr, Begin, Swept, Pass, Lane, Marker, Collector, Act, Entry}
 use Rattle.world_play.specs.Types.act
 use Rattle.world_play.specs.Types.begin
 use Rattle.world_play.specs.Types.commit
-use Rattle.world_play.specs.Types.create
+use Rattle.world_play.specs.Types.stop
 use Rattle.world_play.specs.Types.sweep
+use Rattle.world_play.specs.Text.{in_name_order, text_of}
 use Rattle.world_model.specs.NameLists.{set_at}
-use Rattle.world_model.specs.World.{left_of}
+use Rattle.world_model.specs.World.{World, left_of}
 use Rattle.world_model.specs.State.{State}
 use Rattle.world_model.specs.Next.{run}
-use Rattle.world_model.specs.Calls.{by, CallOf, MarksRoots, SlicesUntilIdle}
+use Rattle.world_model.specs.Calls.{by, CallOf, MarksRoots, SlicesAlone, SlicesUntilIdle}
 use Rattle.world_model.specs.Engines.{act_of_refusal}
 use Rattle.level_script.specs.Classes.{kind_of}
 use Rattle.level_script.specs.Frames.{fits_lane, fits_gc}
@@ -39,102 +37,159 @@ bound names lane var to = set_at names lane (set_at (names lane) var to)
 abbrev pub ended : Bindings → ℕ → Bindings
 ended names lane = set_at names lane (λ var. None)
 
--- ---- the lines of a lane
+-- ---- the entries of a line
 
 -- the piece is one solo call that this act closes
 abbrev pub OneCall : State → Pass → Act → List Entry → Type 0
 OneCall s p a piece = (acts : List Act) × CallOf s p a acts × (piece ≡ by p acts)
 
-abbrev pub reply_of_refusal : ℕ → CreateErr → Reply
-reply_of_refusal lane (create.Full free) = reply.Full lane free
-reply_of_refusal lane (create.NamesSpent left) = reply.NamesSpent lane left
-
--- an object was made, or refused
-abbrev pub MakesObject : State → Bindings → ℕ → ℕ → Kind → List Entry → Reply → Bindings → Type 0
-MakesObject s names lane var kind piece r new =
-    ((count : ℕ) × OneCall s (Lane lane) (act.Make (kind ∷ []) count) piece × (r ≡ reply.New lane (record { lane = lane; count = count })) × (new ≡ bound names lane var (Some (record { lane = lane; count = count }))))
-    ⊎ ((why : CreateErr) × OneCall s (Lane lane) (act_of_refusal 1 why) piece × (r ≡ reply_of_refusal lane why) × (new ≡ bound names lane var None))
+-- an object of this kind was made, or refused
+abbrev pub MakesObject : State → ℕ → Kind → List Entry → Type 0
+MakesObject s lane kind piece = ((count : ℕ) × OneCall s (Lane lane) (act.Make (kind ∷ []) count) piece) ⊎ ((why : CreateErr) × OneCall s (Lane lane) (act_of_refusal 1 why) piece)
 
 -- the object of a variable was rooted or unrooted; a variable that stands for none makes no call
-abbrev pub SetsObject : State → ℕ → Option Name → Bool → List Entry → Reply → Type 0
-SetsObject s lane None on piece r = (piece ≡ []) × (r ≡ reply.NoObject lane)
-SetsObject s lane (Some n) on piece r = (was : Bool) × OneCall s (Lane lane) (act.Root n on was) piece × (r ≡ reply.WasRoot lane was)
+abbrev pub SetsObject : State → ℕ → Option Name → Bool → List Entry → Type 0
+SetsObject s lane None on piece = piece ≡ []
+SetsObject s lane (Some n) on piece = (was : Bool) × OneCall s (Lane lane) (act.Root n on was) piece
 
-abbrev pub LaneTurn : State → Bindings → ℕ → Cmd → List Entry → Reply → Bindings → Type 0
-LaneTurn s names lane cmd.Open piece r new = (phase : Phase) × OneCall s (Lane lane) (act.FrameOpen phase) piece × (r ≡ reply.Opened lane phase) × (new ≡ names)
-LaneTurn s names lane cmd.Close piece r new = OneCall s (Lane lane) act.FrameClose piece × (r ≡ reply.Closed lane) × (new ≡ ended names lane)
-LaneTurn s names lane (cmd.New var class) piece r new = MakesObject s names lane var (kind_of class) piece r new
-LaneTurn s names lane (cmd.Root var on) piece r new = SetsObject s lane (names lane var) on piece r × (new ≡ names)
-LaneTurn s names lane cmd.GcFull piece r new = ⊥
+abbrev pub LanePiece : State → Bindings → ℕ → Cmd → List Entry → Type 0
+LanePiece s names lane cmd.Open piece = (phase : Phase) × OneCall s (Lane lane) (act.FrameOpen phase) piece
+LanePiece s names lane cmd.Close piece = OneCall s (Lane lane) act.FrameClose piece
+LanePiece s names lane (cmd.New var class) piece = MakesObject s lane (kind_of class) piece
+LanePiece s names lane (cmd.Root var on) piece = SetsObject s lane (names lane var) on piece
+LanePiece s names lane cmd.GcFull piece = ⊥
 
--- ---- a whole collection
-
--- why none began
-abbrev pub reply_of_begin : Begin → Reply
-reply_of_begin begin.Started = reply.Pending 0
-reply_of_begin (begin.Running phase) = reply.Running phase
-reply_of_begin (begin.Purging left) = reply.Purging left
-reply_of_begin (begin.Frames n) = reply.Pending n
-
--- sweeps in a row that stopped for their budget, and what they found
-abbrev pub SweepsMore : ℕ → List Act → List Name → Type 0
-SweepsMore budget [] found = found ≡ []
-SweepsMore budget (act.Sweep b r names ∷ rest) found =
-    (b ≡ budget) × (r.stop ≡ sweep.More) × (r.looked ≡ budget) × ((later : List Name) × SweepsMore budget rest later × (found ≡ names ++ later))
-SweepsMore budget (a ∷ rest) found = ⊥
+-- sweeps in a row that stopped for their budget
+abbrev pub SweepsMore : ℕ → List Act → Type 0
+SweepsMore budget [] = Unit {0}
+SweepsMore budget (act.Sweep b r names ∷ rest) = (b ≡ budget) × (r.stop ≡ sweep.More) × (r.looked ≡ budget) × SweepsMore budget rest
+SweepsMore budget (a ∷ rest) = ⊥
 
 -- sweeps in a row of which the last settled, and the others stopped for their budget
-pub record SweepsAll (budget : ℕ) (sweeps : List Act) (found : List Name) : Type 0 where
+pub record SweepsAll (budget : ℕ) (sweeps : List Act) : Type 0 where
   pub more : List Act
-  pub early : List Name
   pub last : Swept
   pub late : List Name
-  pub stopped : SweepsMore budget more early
+  pub stopped : SweepsMore budget more
   pub settled : last.stop ≡ sweep.Settled
   pub are : sweeps ≡ more ++ act.Sweep budget last late ∷ []
-  pub whole : found ≡ early ++ late
 
--- the order of names: by lane, and then by count
-abbrev pub name_cmp : Name → Name → Ordering
-name_cmp = then_cmp (on (λ n. n.lane) nat_cmp) (on (λ n. n.count) nat_cmp)
+-- a collection was begun, slices marked until one was idle, it was committed, and these sweeps followed
+abbrev pub Sweeping : List Act → List (List Act) → List Act → List Entry → Type 0
+Sweeping begins slices sweeps piece = piece ≡ ((by Collector begins ++ flat_map (by (Marker 0)) slices) ++ by Collector (act.CommitGc commit.Done ∷ [])) ++ by Collector sweeps
 
 -- a whole collection ran: it began, slices marked until one was idle, it was committed, and sweeps found what it removed
-pub record Collected (budget : ℕ) (s : State) (piece : List Entry) (r : Reply) : Type 0 where
+pub record Collected (budget : ℕ) (s : State) (piece : List Entry) : Type 0 where
   pub begins : List Act
   pub slices : List (List Act)
   pub sweeps : List Act
-  pub found : List Name
-  pub names : List Name
   pub begun : MarksRoots s.world (act.BeginGc begin.Started) begins
   pub marked : SlicesUntilIdle (run s (by Collector begins)) budget slices
-  pub swept : SweepsAll budget sweeps found
-  pub are : piece ≡ ((by Collector begins ++ flat_map (by (Marker 0)) slices) ++ by Collector (act.CommitGc commit.Done ∷ [])) ++ by Collector sweeps
-  pub same : IsPermutation found names
-  pub in_order : IsSorted name_cmp names
-  pub answer : r ≡ reply.FullGc (length found) (left_of (run s piece).world) names
+  pub swept : SweepsAll budget sweeps
+  pub are : Sweeping begins slices sweeps piece
 
--- none began, or one ran
-abbrev pub CollectorTurn : ℕ → State → Cmd → List Entry → Reply → Type 0
-CollectorTurn budget s cmd.GcFull piece r =
-    ((why : Begin) × (why ≢ begin.Started) × OneCall s Collector (act.BeginGc why) piece × (r ≡ reply_of_begin why)) ⊎ Collected budget s piece r
-CollectorTurn budget s _ piece r = ⊥
+-- a whole collection, or the answer why none began
+abbrev pub CollectorPiece : ℕ → State → Cmd → List Entry → Type 0
+CollectorPiece budget s cmd.GcFull piece = ((why : Begin) × (why ≢ begin.Started) × OneCall s Collector (act.BeginGc why) piece) ⊎ Collected budget s piece
+CollectorPiece budget s _ piece = ⊥
+
+-- from a state and these bindings the entries are those of the line
+abbrev pub IsPiece : ℕ → State → Bindings → Who → Cmd → List Entry → Type 0
+IsPiece budget s names (who.Lane lane) what piece = LanePiece s names lane what piece
+IsPiece budget s names who.Gc what piece = CollectorPiece budget s what piece
+
+-- ---- the reply in a piece
+
+-- the act that closes a piece: its last
+abbrev pub closing : List Entry → Option Act
+closing [] = None
+closing (e ∷ []) = Some e.act
+closing (e ∷ next ∷ es) = closing (next ∷ es)
+
+-- the reply to a lane by the act that closes the piece; a piece without an entry is that of a variable that stands for no object
+abbrev pub lane_reply : ℕ → Option Act → Reply
+lane_reply lane (Some (act.FrameOpen phase)) = reply.Opened lane phase
+lane_reply lane (Some act.FrameClose) = reply.Closed lane
+lane_reply lane (Some (act.Make kinds count)) = reply.New lane (record { lane = lane; count = count })
+lane_reply lane (Some (act.Full asked free)) = reply.Full lane free
+lane_reply lane (Some (act.NamesSpent asked left)) = reply.NamesSpent lane left
+lane_reply lane (Some (act.Root at on was)) = reply.WasRoot lane was
+lane_reply lane _ = reply.NoObject lane
+
+-- what the collector answered when it was asked to begin: its first act says so
+abbrev pub begin_answer : Act → Begin
+begin_answer (act.BeginGc why) = why
+begin_answer _ = begin.Started
+
+abbrev pub first_begin : List Entry → Begin
+first_begin [] = begin.Started
+first_begin (e ∷ es) = begin_answer e.act
+
+-- the reply to a whole collection by that answer, and by what it leaves: the removed objects that it found, in the order of their names
+abbrev pub full_reply : World → Begin → Reply
+full_reply w begin.Started = reply.FullGc (length w.found) (left_of w) (in_name_order w.found)
+full_reply w (begin.Running phase) = reply.Running phase
+full_reply w (begin.Purging left) = reply.Purging left
+full_reply w (begin.Frames n) = reply.Pending n
+
+-- the reply in the piece of a line
+abbrev pub reply_in : State → Who → List Entry → Reply
+reply_in s (who.Lane lane) piece = lane_reply lane (closing piece)
+reply_in s who.Gc piece = full_reply (run s piece).world (first_begin piece)
+
+-- the object that a reply gives
+abbrev pub object_of : Reply → Option Name
+object_of (reply.New lane n) = Some n
+object_of _ = None
+
+-- the bindings after a line with this reply
+abbrev pub names_after : Bindings → Who → Cmd → Reply → Bindings
+names_after names (who.Lane lane) cmd.Close r = ended names lane
+names_after names (who.Lane lane) (cmd.New var class) r = bound names lane var (object_of r)
+names_after names by what r = names
 
 -- ---- whole scripts
 
 -- from a state and these bindings the line has this piece and this reply, and leaves those bindings
 abbrev pub TurnBy : ℕ → State → Bindings → Who → Cmd → List Entry → Reply → Bindings → Type 0
-TurnBy budget s names (who.Lane lane) cmd piece r new = LaneTurn s names lane cmd piece r new
-TurnBy budget s names who.Gc cmd piece r new = CollectorTurn budget s cmd piece r × (new ≡ names)
+TurnBy budget s names by what piece r new = IsPiece budget s names by what piece × (r ≡ reply_in s by piece) × (new ≡ names_after names by what r)
 
-abbrev pub Turn : ℕ → State → Bindings → Line → List Entry → Reply → Bindings → Type 0
-Turn budget s names l piece r new = TurnBy budget s names l.who l.cmd piece r new
+-- these are the pieces of the lines in order, from a state and these bindings to those
+unfoldable pub Plays : ℕ → State → Bindings → List Line → List (List Entry) → Bindings → Type 0
+Plays budget s names [] [] new = new ≡ names
+Plays budget s names (l ∷ ls) (p ∷ ps) new = IsPiece budget s names l.who l.cmd p × Plays budget (run s p) (names_after names l.who l.cmd (reply_in s l.who p)) ls ps new
+Plays budget s names _ _ new = ⊥
 
--- the entries are those of the lines in order, one piece after another, and these are the replies
-unfoldable pub Plays : ℕ → State → Bindings → List Line → List Entry → List Reply → Bindings → Type 0
-Plays budget s names [] h rs new = (h ≡ []) × (rs ≡ []) × (new ≡ names)
-Plays budget s names (l ∷ ls) h rs new =
-    (mid : Bindings) × (piece : List Entry) × (rest : List Entry) × (r : Reply) × (others : List Reply)
-    × Turn budget s names l piece r mid × (h ≡ piece ++ rest) × (rs ≡ r ∷ others) × Plays budget (run s piece) mid ls rest others new
+-- the text of lines and their pieces: line by line that of the reply in the piece
+unfoldable pub text : State → List Line → List (List Entry) → List ℕ
+text s (l ∷ ls) (p ∷ ps) = text_of (reply_in s l.who p) ++ text (run s p) ls ps
+text s _ _ = []
+
+-- the entries of pieces in order
+abbrev pub entries_of : List (List Entry) → List Entry
+entries_of pieces = flat_map (λ p. p) pieces
+
+-- ---- a line that is not played to its end
+
+-- slices of marker 0 in a row that spent their budget
+abbrev pub SlicesSpent : State → ℕ → List (List Act) → Type 0
+SlicesSpent s budget [] = Unit {0}
+SlicesSpent s budget (acts ∷ rest) =
+    (scanned : ℕ) × SlicesAlone s 0 budget (record { scanned = scanned; stop = stop.Spent }) acts × SlicesSpent (run s (by (Marker 0) acts)) budget rest
+
+-- some calls of a whole collection, from the first on: its start and some slices; or its start, all slices, its commit and some sweeps
+pub record CollectedSome (budget : ℕ) (s : State) (part : List Entry) : Type 0 where
+  pub begins : List Act
+  pub slices : List (List Act)
+  pub begun : MarksRoots s.world (act.BeginGc begin.Started) begins
+  pub calls : (SlicesSpent (run s (by Collector begins)) budget slices × (part ≡ by Collector begins ++ flat_map (by (Marker 0)) slices))
+      ⊎ (SlicesUntilIdle (run s (by Collector begins)) budget slices × (part ≡ by Collector begins ++ flat_map (by (Marker 0)) slices))
+      ⊎ ((sweeps : List Act) × SlicesUntilIdle (run s (by Collector begins)) budget slices × SweepsMore budget sweeps × Sweeping begins slices sweeps part)
+
+-- from a state the entries are those of some of the line's calls, from the first on, or of none
+abbrev pub IsPart : ℕ → State → Who → Cmd → List Entry → Type 0
+IsPart budget s who.Gc cmd.GcFull part = (part ≡ []) ⊎ CollectedSome budget s part
+IsPart budget s _ _ part = part ≡ []
 
 -- ---- lines that can be played
 

@@ -1,26 +1,17 @@
 -- What the stages of a whole collection leave.
-use Rattle.std.specs.Prelude.{◌≡◌, ◌≤◌, ℕ, List, [], ◌∷◌, ◌++◌, flat_map, length, IsTrue}
-use Rattle.std.specs.List.Sorted.{IsPermutation, IsSorted}
+use Rattle.std.specs.Prelude.{◌≡◌, ◌≤◌, ◌⊎◌, ℕ, List, [], ◌∷◌, ◌++◌, flat_map, length, IsTrue}
 use Rattle.world_model.specs.Sizes.{Sizes, item_count}
-use Rattle.world_model.specs.World.{left_of}
-use Rattle.world_model.specs.State.{State, grey_units}
-use Rattle.world_model.specs.Next.{run}
+use Rattle.world_model.specs.State.{grey_units}
 use Rattle.world_model.specs.Histories.{state_of, after, Legal}
-use Rattle.world_model.specs.Calls.{by, SlicesAlone, SlicesUntilIdle}
+use Rattle.world_model.specs.Calls.{by, SlicesUntilIdle}
 use Rattle.world_model.specs.Engines.{Holdings, KeepsHeld, no_slice}
 use Rattle.world_play.specs.Types.{Name, Marking, Gathering, Marker, Collector, Act, Entry, Reply}
 use Rattle.world_play.specs.Types.act
 use Rattle.world_play.specs.Types.commit
-use Rattle.world_play.specs.Types.stop
 use Rattle.world_play.specs.Types.cmd
-use Rattle.world_play.specs.Types.reply
-use Rattle.world_play.specs.Plays.{SweepsMore, SweepsAll, CollectorTurn, name_cmp}
-
--- slices of marker 0 in a row that spent their budget
-abbrev pub SlicesSpent : State → ℕ → List (List Act) → Type 0
-SlicesSpent s budget [] = Unit {0}
-SlicesSpent s budget (acts ∷ rest) =
-    (scanned : ℕ) × SlicesAlone s 0 budget (record { scanned = scanned; stop = stop.Spent }) acts × SlicesSpent (run s (by (Marker 0) acts)) budget rest
+use Rattle.world_play.specs.Types.who
+use Rattle.world_play.specs.Types.begin
+use Rattle.world_play.specs.Plays.{SlicesSpent, SweepsMore, SweepsAll, CollectorPiece, full_reply, reply_in}
 
 -- a collection marks, and nothing is open
 pub record IsMarking (z : Sizes) (history : List Entry) : Type 0 where
@@ -53,8 +44,9 @@ pub record IsGathering (z : Sizes) (history : List Entry) : Type 0 where
 -- sweeps found all that was removed
 pub record Finds (z : Sizes) (old new : List Entry) (budget : ℕ) (found : List Name) : Type 0 where
   pub sweeps : List Act
-  pub swept : SweepsAll budget sweeps found
+  pub swept : SweepsAll budget sweeps
   pub grown : new ≡ old ++ by Collector sweeps
+  pub names : (after new).found ≡ (after old).found ++ found
   pub few : length found ≤ item_count z
   pub opened : (after new).opened ≡ (after old).opened
   pub legal : Legal z new
@@ -63,34 +55,52 @@ pub record Finds (z : Sizes) (old new : List Entry) (budget : ℕ) (found : List
 -- sweeps found some of it so far
 pub record FindsOn (z : Sizes) (old new : List Entry) (budget : ℕ) (found : List Name) : Type 0 where
   pub sweeps : List Act
-  pub swept : SweepsMore budget sweeps found
+  pub swept : SweepsMore budget sweeps
   pub grown : new ≡ old ++ by Collector sweeps
+  pub names : (after new).found ≡ (after old).found ++ found
   pub few : length found ≤ (after new).swept
   pub opened : (after new).opened ≡ (after old).opened
   pub now : IsGathering z new
+
+-- some sweeps were made, or all
+pub record FindsSome (z : Sizes) (old new : List Entry) (budget : ℕ) : Type 0 where
+  pub sweeps : List Act
+  pub swept : SweepsMore budget sweeps ⊎ SweepsAll budget sweeps
+  pub grown : new ≡ old ++ by Collector sweeps
+  pub legal : Legal z new
+
+-- the history grew by slices, a commit and sweeps
+abbrev pub GrowsBy : List Entry → List Entry → List (List Act) → List Act → Type 0
+GrowsBy old new slices sweeps = new ≡ ((old ++ flat_map (by (Marker 0)) slices) ++ by Collector (act.CommitGc commit.Done ∷ [])) ++ by Collector sweeps
 
 -- the rest of a whole collection, once it has begun: it marked, was committed, and found what it removed
 pub record GoesOn (z : Sizes) (budget : ℕ) (old new : List Entry) (before now : Holdings) (r : Reply) : Type 0 where
   pub slices : List (List Act)
   pub sweeps : List Act
-  pub found : List Name
-  pub names : List Name
   pub marked : SlicesUntilIdle (state_of old) budget slices
-  pub swept : SweepsAll budget sweeps found
-  pub grown : new ≡ ((old ++ flat_map (by (Marker 0)) slices) ++ by Collector (act.CommitGc commit.Done ∷ [])) ++ by Collector sweeps
-  pub same : IsPermutation found names
-  pub in_order : IsSorted name_cmp names
-  pub answer : r ≡ reply.FullGc (length found) (left_of (after new)) names
+  pub swept : SweepsAll budget sweeps
+  pub grown : GrowsBy old new slices sweeps
+  pub answer : r ≡ full_reply (after new) begin.Started
   pub legal : Legal z new
   pub alone : IsTrue (no_slice (after new))
   pub opened : (after new).opened ≡ (after old).opened
   pub held : KeepsHeld before now
 
+-- a part of that, up to some of its sweeps, or to all of them
+pub record GoesOnSome (z : Sizes) (budget : ℕ) (old new : List Entry) : Type 0 where
+  pub slices : List (List Act)
+  pub sweeps : List Act
+  pub marked : SlicesUntilIdle (state_of old) budget slices
+  pub swept : SweepsMore budget sweeps ⊎ SweepsAll budget sweeps
+  pub grown : GrowsBy old new slices sweeps
+  pub legal : Legal z new
+
 -- a whole collection, or why none began
 pub record Collects (z : Sizes) (budget : ℕ) (old new : List Entry) (before now : Holdings) (r : Reply) : Type 0 where
   pub piece : List Entry
   pub grown : new ≡ old ++ piece
-  pub turn : CollectorTurn budget (state_of old) cmd.GcFull piece r
+  pub calls : CollectorPiece budget (state_of old) cmd.GcFull piece
+  pub answer : r ≡ reply_in (state_of old) who.Gc piece
   pub legal : Legal z new
   pub alone : IsTrue (no_slice (after new))
   pub opened : (after new).opened ≡ (after old).opened

@@ -1,7 +1,23 @@
--- The text of a reply.
+-- The order of names, and the text of a reply.
 use Rattle.std.specs.Prelude.{ℕ, List, [], ◌∷◌, ◌++◌, codes, decimal, flat_map, if◌then◌else◌}
+use Rattle.std.specs.Ordering.{nat_cmp, on, then_cmp, is_lt}
+use Rattle.std.specs.declared.cmp.Ordering.{Ordering}
 use Rattle.world_play.specs.Types.{Name, Phase, Idle, Marking, Gathering, Reply}
 use Rattle.world_play.specs.Types.reply
+
+-- the order of names: by lane, and then by count
+abbrev pub name_cmp : Name → Name → Ordering
+name_cmp = then_cmp (on (λ n. n.lane) nat_cmp) (on (λ n. n.count) nat_cmp)
+
+-- one more name among names that are in order
+abbrev pub with_name : Name → List Name → List Name
+with_name n [] = n ∷ []
+with_name n (m ∷ names) = if is_lt (name_cmp m n) then m ∷ with_name n names else n ∷ m ∷ names
+
+-- names in their order
+abbrev pub in_name_order : List Name → List Name
+in_name_order [] = []
+in_name_order (n ∷ names) = with_name n (in_name_order names)
 
 abbrev pub phase_text : Phase → List ℕ
 phase_text Idle = codes "idle"

@@ -1,14 +1,14 @@
 -- What the player is asked for, and what it leaves.
-use Rattle.std.specs.Prelude.{◌≡◌, ℕ, ◌+◌, ◌^◌, ◌<◌, Bool, true, List, ◌++◌, length, Option, flat_map, IsTrue}
+use Rattle.std.specs.Prelude.{◌≡◌, ℕ, ◌+◌, ◌^◌, ◌<◌, ◌⊎◌, Bool, true, List, [], ◌∷◌, ◌++◌, length, Option, IsTrue}
 use Rattle.world_model.specs.Sizes.{Sizes}
 use Rattle.world_model.specs.World.{World, is_open}
-use Rattle.world_model.specs.State.{beginning}
+use Rattle.world_model.specs.State.{State, beginning}
 use Rattle.world_model.specs.Histories.{state_of, after, Legal}
 use Rattle.world_model.specs.Engines.{Holdings, no_slice}
 use Rattle.world_play.specs.Types.{Entry, Line, Who, Cmd, Reply, Lane}
-use Rattle.world_play.specs.Plays.{Bindings, no_bindings, TurnBy, Plays, fits_by, frames_by}
+use Rattle.world_play.specs.Plays.{Bindings, no_bindings, IsPiece, IsPart, reply_in, TurnBy, Plays, text, entries_of, fits_by, frames_by}
 use Rattle.world_play.specs.Text.{text_of}
-use Rattle.world_play.specs.Streams.{Gained}
+use Rattle.world_play.specs.Streams.{Gained, IsStart}
 use Rattle.world_play.specs.Variables.{shown, numbers_of, AreKept}
 use Rattle.world_play.specs.declared.variables.LaneVariables.{LaneVariables}
 
@@ -34,16 +34,54 @@ pub record Turned (z : Sizes) (budget : ℕ) (old new : List Entry) (holds : Hol
   pub alone : IsTrue (no_slice (after new))
   pub kept : AreKept holds now (played + 1)
 
+-- A line was not played to its end: some of its calls were made, or all of them.
+pub record Broken (z : Sizes) (budget : ℕ) (old new : List Entry) (names : Bindings) (by : Who) (what : Cmd) : Type 0 where
+  pub part : List Entry
+  pub grown : new ≡ old ++ part
+  pub made : IsPart budget (state_of old) by what part ⊎ IsPiece budget (state_of old) names by what part
+  pub legal : Legal z new
+
 -- A line was played, and its reply put.
 pub record Answered (z : Sizes) (budget : ℕ) (old new : List Entry) (holds : Holdings) (before now : List LaneVariables) (played : ℕ) (l : Line) (had has : Option (List ℕ)) : Type 0 where
   pub reply : Reply
   pub turned : Turned z budget old new holds before now played l.who l.cmd reply
   pub put : Gained had has (text_of reply)
 
--- The lines were played from the beginning, and their replies put.
+-- the lines end here; or of the next line some calls were made and nothing was put, or all calls were made and a beginning of its text was put
+abbrev pub Stops : ℕ → State → Bindings → List Line → List Entry → List ℕ → Type 0
+Stops budget s names [] part some = (part ≡ []) × (some ≡ [])
+Stops budget s names (l ∷ ls) part some = (IsPart budget s l.who l.cmd part × (some ≡ [])) ⊎ (IsPiece budget s names l.who l.cmd part × IsStart some (text_of (reply_in s l.who part)))
+
+-- A line was not played, or its reply was not put as a whole.
+pub record Unanswered (z : Sizes) (budget : ℕ) (old new : List Entry) (names : Bindings) (l : Line) (had has : Option (List ℕ)) : Type 0 where
+  pub part : List Entry
+  pub some : List ℕ
+  pub grown : new ≡ old ++ part
+  pub stops : Stops budget (state_of old) names (l ∷ []) part some
+  pub legal : Legal z new
+  pub put : Gained had has some
+
+-- The lines were played from the beginning, and their replies put: the history is legal, it is cut into the pieces of the lines, and what was put is their text.
 pub record Played (z : Sizes) (budget : ℕ) (lines : List Line) (history : List Entry) (had has : Option (List ℕ)) : Type 0 where
-  pub replies : List Reply
+  pub pieces : List (List Entry)
   pub last : Bindings
   pub legal : Legal z history
-  pub plays : Plays budget beginning no_bindings lines history replies last
-  pub put : Gained had has (flat_map text_of replies)
+  pub cut : history ≡ entries_of pieces
+  pub plays : Plays budget beginning no_bindings lines pieces last
+  pub put : Gained had has (text beginning lines pieces)
+
+-- The first lines were played, and so many replies put as a whole; of the next line perhaps some calls were made, or all of them and a beginning of its text was put.
+pub record Stopped (z : Sizes) (budget : ℕ) (lines : List Line) (history : List Entry) (had has : Option (List ℕ)) (count : ℕ) : Type 0 where
+  pub whole : List Line
+  pub rest : List Line
+  pub pieces : List (List Entry)
+  pub part : List Entry
+  pub names : Bindings
+  pub some : List ℕ
+  pub legal : Legal z history
+  pub are : lines ≡ whole ++ rest
+  pub cut : history ≡ entries_of pieces ++ part
+  pub plays : Plays budget beginning no_bindings whole pieces names
+  pub stops : Stops budget (state_of (entries_of pieces)) names rest part some
+  pub put : Gained had has (text beginning whole pieces ++ some)
+  pub number : count ≡ length whole

@@ -1,9 +1,14 @@
 //! Whole collections.
-ghost use Rattle.std.specs.Prelude.{◌≡◌, ◌≤◌, IfOk, IsTrue};
+ghost use Rattle.std.specs.Prelude.{◌≡◌, ◌≢◌, ◌≤◌, IfOk, OnErr, IsTrue};
 ghost use Rattle.world_model.specs.Histories.{after, Legal};
 ghost use Rattle.world_model.specs.Engines.{KeepsHeld, no_slice};
-ghost use Rattle.world_play.specs.Plays.{reply_of_begin};
-ghost use Rattle.world_play.specs.Stages.{IsMarking, Marks, IsGathering, Finds, GoesOn, Collects};
+ghost use Rattle.world_model.specs.World.{World};
+ghost use Rattle.world_play.specs.Types.begin;
+ghost use Rattle.world_play.specs.Types.cmd;
+ghost use Rattle.world_play.specs.Types.who;
+ghost use Rattle.world_play.specs.Plays.{Bindings, full_reply};
+ghost use Rattle.world_play.specs.Stages.{IsMarking, Marks, IsGathering, Finds, FindsSome, GoesOn, GoesOnSome, Collects};
+ghost use Rattle.world_play.specs.Turns.{Broken};
 
 use crate::reply::Reply;
 use std::alloc::{AllocError, Global};
@@ -37,6 +42,7 @@ fn sweep_all<S: Shape, E: Engine<S>>(
     requires some { 1 ≤ budget }
     requires gathering { IsGathering S.sizes (E.history engine.old) }
     ensures finds { IfOk result (λ found. Finds S.sizes (E.history engine.old) (E.history engine.new) budget found.items) }
+    ensures some { OnErr result (FindsSome S.sizes (E.history engine.old) (E.history engine.new) budget) }
     ensures held { KeepsHeld (E.holds engine.old) (E.holds engine.new) }
 {
     let mut found = Vec::new(alloc);
@@ -54,7 +60,8 @@ fn sweep_all<S: Shape, E: Engine<S>>(
 
 /// Why no collection began.
 fn refusal(why: Begin) -> Reply
-    ensures { result ≡ reply_of_begin why }
+    requires { why ≢ begin.Started }
+    ensures { (w : World) → result ≡ full_reply w why }
 {
     match why {
         Begin::Started => Reply::Pending(0),
@@ -72,7 +79,8 @@ fn go_on<S: Shape, E: Engine<S>>(
 ) -> Result<Reply, AllocError>
     requires some { 1 ≤ budget }
     requires marking { IsMarking S.sizes (E.history engine.old) }
-    ensures { IfOk result (λ reply. GoesOn S.sizes budget (E.history engine.old) (E.history engine.new) (E.holds engine.old) (E.holds engine.new) reply) }
+    ensures all { IfOk result (λ reply. GoesOn S.sizes budget (E.history engine.old) (E.history engine.new) (E.holds engine.old) (E.holds engine.new) reply) }
+    ensures some { OnErr result (GoesOnSome S.sizes budget (E.history engine.old) (E.history engine.new)) }
 {
     mark_all::<S, E>(engine, budget);
     let _ = engine.commit();
@@ -92,7 +100,8 @@ pub(crate) fn full<S: Shape, E: Engine<S>>(
     requires some { 1 ≤ budget }
     requires legal { Legal S.sizes (E.history engine.old) }
     requires alone { IsTrue (no_slice (after (E.history engine.old))) }
-    ensures { IfOk result (λ reply. Collects S.sizes budget (E.history engine.old) (E.history engine.new) (E.holds engine.old) (E.holds engine.new) reply) }
+    ensures all { IfOk result (λ reply. Collects S.sizes budget (E.history engine.old) (E.history engine.new) (E.holds engine.old) (E.holds engine.new) reply) }
+    ensures some { OnErr result ((names : Bindings) → Broken S.sizes budget (E.history engine.old) (E.history engine.new) names who.Gc cmd.GcFull) }
 {
     match engine.begin() {
         Begin::Started => go_on::<S, E>(alloc, engine, budget),

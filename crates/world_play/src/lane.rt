@@ -1,8 +1,9 @@
 //! The lines of lanes.
-ghost use Rattle.std.specs.Prelude.{◌≡◌, ℕ, length};
+ghost use Rattle.std.specs.Prelude.{◌≡◌, ℕ, length, Some};
 ghost use Rattle.world_play.specs.Types.who;
 ghost use Rattle.world_play.specs.Types.cmd;
-ghost use Rattle.world_play.specs.Plays.{reply_of_refusal};
+ghost use Rattle.world_model.specs.Engines.{act_of_refusal};
+ghost use Rattle.world_play.specs.Plays.{lane_reply};
 ghost use Rattle.world_play.specs.Turns.{IsReady, Turned};
 
 use crate::reply::Reply;
@@ -49,7 +50,7 @@ pub(crate) fn close<S: Shape, E: Engine<S>>(
 }
 
 fn refusal(lane: u32, why: CreateErr) -> Reply
-    ensures { result ≡ reply_of_refusal lane why }
+    ensures { result ≡ lane_reply lane (Some (act_of_refusal 1 why)) }
 {
     match why {
         CreateErr::Full { free } => Reply::Full(lane, free),

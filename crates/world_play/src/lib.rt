@@ -10,6 +10,7 @@
 
 mod collection;
 mod lane;
+mod laws;
 mod player;
 mod reply;
 mod run;
@@ -21,8 +22,9 @@ mod text;
 mod turn;
 mod variables;
 
+pub use laws::one_text;
 pub use play_io::{Failed, NoPace, Pace, PutErr, Sink, Source, SureSink, SureSource, Turn};
 pub use player::play;
 pub use reply::Reply;
-pub use run::{Ended, Run, worldrun};
+pub use run::{Ended, Run, run_in_memory, worldrun};
 pub use status::{Status, exit_code, fault_text};

@@ -1,9 +1,10 @@
 //! Whole scripts.
-ghost use Rattle.std.specs.Prelude.{◌≡◌, ◌≤◌, true, false, [], length, replicate, Err, OnOk};
+ghost use Rattle.std.specs.Prelude.{◌≡◌, ◌≤◌, true, false, [], length, replicate, Err, OnOk, OnErr};
 ghost use Rattle.play_io.specs.Faults.{Rose};
 ghost use Rattle.play_io.specs.declared.sink.PutErr.TheVariants as put;
 ghost use Rattle.level_script.specs.Frames.{are_framed};
-ghost use Rattle.world_play.specs.Turns.{IsReady, Answered, Played};
+ghost use Rattle.world_play.specs.Turns.{IsReady, Answered, Unanswered, Played, Stopped};
+ghost use Rattle.world_play.specs.Variables.{shown};
 
 use crate::stream::put_all;
 use crate::text;
@@ -30,6 +31,7 @@ fn play_line<S: Shape, E: Engine<S>, K: Sink>(
     ensures later { K.faults out.old ≤ K.faults out.new }
     ensures failed { result ≡ Err put.Failed → Rose (K.faults out.old) (K.faults out.new) }
     ensures answered { OnOk result (Answered S.sizes budget (E.history engine.old) (E.history engine.new) (E.holds engine.new) lanes.old lanes.new played line (K.held out.old) (K.held out.new)) }
+    ensures unanswered { OnErr result (Unanswered S.sizes budget (E.history engine.old) (E.history engine.new) (shown lanes.old) line (K.held out.old) (K.held out.new)) }
 {
     let Ok(reply) = turn::<S, E>(alloc, engine, classes, lanes, played, budget, line) else {
         return Err(PutErr::Memory);
@@ -61,6 +63,7 @@ pub fn play<S: Shape, E: Engine<S>, K: Sink>(
     ensures failed { result ≡ Err put.Failed → Rose (K.faults out.old) (K.faults out.new) }
     ensures plays { OnOk result (Played S.sizes budget lines.now (E.history engine.new) (K.held out.old) (K.held out.new)) }
     ensures written { OnOk result (written.new ≡ length lines.now) }
+    ensures stopped { OnErr result (Stopped S.sizes budget lines.now (E.history engine.new) (K.held out.old) (K.held out.new) written.new) }
 {
     let Ok(mut variables) = unbound(alloc, counts) else {
         return Err(PutErr::Memory);

@@ -1,8 +1,8 @@
 //! The top call.
-ghost use Rattle.std.specs.Prelude.{◌≡◌, ◌≤◌, ◌↔◌, false, IfOk, IfErr};
+ghost use Rattle.std.specs.Prelude.{◌≡◌, ◌≤◌, ◌↔◌, ◌⊎◌, true, false, Some, None, IfOk, IfErr, OnOk};
 ghost use Rattle.world_model.specs.Sizes.{level};
 ghost use Rattle.level_script.specs.Frames.{IsPlayable};
-ghost use Rattle.world_play.specs.Ends.{is_play, level_limits, Refuses, WasRead, IsBefore, WritesFault, WasPlayed, HasRun, OnRefused, OnDone, SaysScript, SaysRead, SaysWrite, Done};
+ghost use Rattle.world_play.specs.Ends.{is_play, level_limits, WasTaken, IsScript, Refuses, IsBefore, WritesFault, HasRun, WasPlayed, OnDone, OnStopped, OnNone, SaysScript, SaysTaken, SaysRead, SaysWrite, Headline, EndsEarly, WritesOutcome, CountsLines, TellsScript, Completes, IsSure};
 ghost use Rattle.world_play.specs.declared.status.Status.TheVariants as status;
 
 use crate::player::play;
@@ -10,7 +10,7 @@ use crate::status::Status;
 use crate::stream::{ReadErr, read_all};
 use heap_plain::PlainHeap;
 use level_script::{Limits, ParseErr, Script, parse};
-use play_io::{Pace, PutErr, Sink, Source};
+use play_io::{NoPace, Pace, PutErr, Sink, Source, SureSink, SureSource};
 use std::alloc::Global;
 use std::thread::Threads;
 use world_model::{Level, Shape};
@@ -42,7 +42,8 @@ pub struct Ended {
 fn without_run(status: Status) -> Ended
     requires { IsBefore status }
     ensures status { result.status ≡ status }
-    ensures run { HasRun result.status result.run }
+    ensures lines { result.lines ≡ 0 }
+    ensures run { result.run ≡ None }
 {
     Ended {
         status,
@@ -72,8 +73,9 @@ fn limits() -> Limits
 fn read_script<S: Source>(alloc: Global, source: &mut S) -> Result<Script, Status>
     ensures later { S.faults source.old ≤ S.faults source.new }
     ensures playable { IfOk result (IsPlayable level_limits) }
-    ensures read { IfOk result (WasRead (S.left source.old) (S.left source.new)) }
-    ensures refused { IfErr result (Refuses (S.left source.old) (S.faults source.old) (S.faults source.new)) }
+    ensures read { IfOk result (IsScript (S.left source.old)) }
+    ensures taken { OnOk result (WasTaken (S.left source.old) (S.left source.new)) }
+    ensures refused { IfErr result (Refuses (S.left source.old) (S.left source.new) (S.faults source.old) (S.faults source.new)) }
 {
     let bytes = match read_all(alloc, source, LIMIT) {
         Ok(bytes) => bytes,
@@ -93,7 +95,8 @@ fn perform<K: Sink>(alloc: Global, script: &Script, out: &mut K) -> Ended
     ensures later { K.faults out.old ≤ K.faults out.new }
     ensures write { WritesFault (K.faults out.old) (K.faults out.new) result.status }
     ensures run { HasRun result.status result.run }
-    ensures played { OnDone result.status (WasPlayed script.now (K.held out.old) (K.held out.new) result.lines result.run) }
+    ensures played { WasPlayed result.status script.now.lines result.run (K.held out.old) (K.held out.new) result.lines }
+    ensures unplayed { OnNone result.run (out.new ≡ out.old) }
 {
     let Ok(mut engine) = PlainHeap::<Level>::new(alloc) else {
         return without_run(Status::Memory);
@@ -143,12 +146,17 @@ pub fn worldrun<R: Threads + Sync, S: Source, K: Sink, P: Pace>(
 ) -> Ended
     ensures usage { (result.status ≡ status.Usage) ↔ (is_play words.now ≡ false) }
     ensures unread { result.status ≡ status.Usage → script.new ≡ script.old }
-    ensures unwritten { OnRefused result.status (out.new ≡ out.old) }
-    ensures script { SaysScript (S.left script.old) result.status }
-    ensures read { SaysRead (S.faults script.old) (S.faults script.new) result.status }
-    ensures write { SaysWrite (K.faults out.old) (K.faults out.new) result.status }
+    ensures script { SaysScript (S.left script.old) result.status result.run }
+    ensures taken { SaysTaken (S.left script.old) (S.left script.new) result.status result.run }
+    ensures read_fault { SaysRead (S.faults script.old) (S.faults script.new) result.status }
+    ensures write_fault { SaysWrite (K.faults out.old) (K.faults out.new) result.status }
+    ensures complete { Completes words.now (S.left script.old) (S.faults script.old) (S.faults script.new) (K.faults out.old) (K.faults out.new) result.status }
     ensures run { HasRun result.status result.run }
-    ensures done { OnDone result.status (Done (S.left script.old) (S.left script.new) (K.held out.old) (K.held out.new) result.lines result.run) }
+    ensures unplayed { OnNone result.run (out.new ≡ out.old) }
+    ensures headline { OnDone result.status (Headline (S.left script.old) (S.left script.new) (K.held out.old) (K.held out.new) result.run) }
+    ensures outcome { OnDone result.status (WritesOutcome (S.left script.old) (K.held out.old) (K.held out.new)) }
+    ensures early { OnStopped result.status result.run (EndsEarly (S.left script.old) (K.held out.old) (K.held out.new) result.lines) }
+    ensures lines { CountsLines (K.held out.old) (K.held out.new) result.lines }
 {
     let _ = rt;
     let _ = pace;
@@ -159,4 +167,20 @@ pub fn worldrun<R: Threads + Sync, S: Source, K: Sink, P: Pace>(
         Ok(script) => perform(alloc, &script, out),
         Err(status) => without_run(status),
     }
+}
+
+/// `worldrun` from bytes in memory to bytes in memory, where no call fails and the pace is told
+/// nothing. Without want of memory a script is played to its end.
+pub fn run_in_memory<R: Threads + Sync>(
+    rt: &R,
+    alloc: Global,
+    words: &[String],
+    script: &mut SureSource,
+    out: &mut SureSink,
+) -> Ended
+    ensures sure { IsSure result.status }
+    ensures complete { is_play words.now ≡ true → TellsScript (Some script.old) → (result.status ≡ status.Ok) ⊎ (result.status ≡ status.Memory) }
+    ensures outcome { OnDone result.status (WritesOutcome (Some script.old) (Some out.old) (Some out.new)) }
+{
+    worldrun(rt, alloc, words, script, out, &NoPace)
 }

@@ -1,8 +1,8 @@
 //! Whole inputs, and texts that are put whole.
-ghost use Rattle.std.specs.Prelude.{◌≡◌, ◌^◌, ◌<◌, ◌≤◌, length, Err, IfOk, OnOk};
+ghost use Rattle.std.specs.Prelude.{◌≡◌, ◌^◌, ◌<◌, ◌≤◌, Err, IfOk, OnOk, OnErr};
 ghost use Rattle.play_io.specs.Faults.{Rose};
 ghost use Rattle.play_io.specs.declared.sink.PutErr.TheVariants as put;
-ghost use Rattle.world_play.specs.Streams.{Read, Gained};
+ghost use Rattle.world_play.specs.Streams.{Read, Gained, GainedStart};
 ghost use Rattle.world_play.specs.declared.stream.ReadErr.TheVariants as read;
 
 use play_io::{PutErr, Sink, Source};
@@ -50,6 +50,7 @@ pub(crate) fn put_all<K: Sink>(sink: &mut K, bytes: &[u8]) -> Result<(), PutErr>
     ensures later { K.faults sink.old ≤ K.faults sink.new }
     ensures failed { result ≡ Err put.Failed → Rose (K.faults sink.old) (K.faults sink.new) }
     ensures all { OnOk result (Gained (K.held sink.old) (K.held sink.new) bytes.now) }
+    ensures start { OnErr result (GainedStart (K.held sink.old) (K.held sink.new) bytes.now) }
 {
     let mut at = 0;
     while at < bytes.len() {

@@ -1,11 +1,11 @@
 //! Whole runs, with the texts that the language gives them. Sources give, and sinks take, so many
 //! bytes at a time.
-ghost use Rattle.std.specs.Prelude.{◌<◌};
+ghost use Rattle.std.specs.Prelude.{◌<◌, None};
 
-use crate::run::worldrun;
+use crate::run::{run_in_memory, worldrun};
 use crate::status::{Status, exit_code, fault_text};
 use level_script::{Cause, SchemaErr, ScriptErr};
-use play_io::{NoPace, SureSink, SureSource};
+use play_io::{NoPace, PutErr, Sink, SureSink, SureSource};
 use std::alloc::Global;
 use std::thread::Threads;
 
@@ -33,7 +33,7 @@ fn run<R: Threads + Sync>(
     };
     let mut source = SureSource::new(bytes, piece);
     let mut text = SureSink::new(alloc, piece);
-    let ended = worldrun(rt, alloc, words, &mut source, &mut text, &NoPace);
+    let ended = run_in_memory(rt, alloc, words, &mut source, &mut text);
     let status = ended.status;
     let lines = ended.lines;
     Some(Ran {
@@ -86,6 +86,37 @@ fn the_smallest_script(rt: HostRuntime) {
     for piece in [1, 7, 4096, 100_000] {
         assert!(rt; plays(&rt, rt.alloc(), SMALLEST, piece, Status::Ok, text, 5));
     }
+}
+
+/// A sink that counts its calls, takes all that it is given, and tells nothing.
+#[derive(Drop)]
+struct PutCounter {
+    puts: u64,
+}
+
+impl Sink for PutCounter {
+    ghost held = { λ _. None };
+
+    ghost faults = { λ _. 0 };
+
+    fn put(&mut self, bytes: &[u8]) -> Result<usize, PutErr> {
+        self.puts = self.puts.saturating_add(1);
+        Ok(bytes.len())
+    }
+}
+
+#[test]
+fn each_reply_is_put_as_one_piece(rt: HostRuntime) {
+    let word = String::from_str(rt.alloc(), "play").expect(&rt, "memory");
+    let mut bytes = Vec::new(rt.alloc());
+    bytes
+        .extend_from_slice(SMALLEST.as_bytes())
+        .expect(&rt, "memory");
+    let mut source = SureSource::new(bytes, 7);
+    let mut sink = PutCounter { puts: 0 };
+    let ended = worldrun(&rt, rt.alloc(), &[word], &mut source, &mut sink, &NoPace);
+    assert_eq!(rt; ended.lines, 5);
+    assert_eq!(rt; sink.puts, 5);
 }
 
 #[test]

@@ -1,7 +1,8 @@
 //! One line of a script.
-ghost use Rattle.std.specs.Prelude.{◌≡◌, ◌≤◌, ℕ, length, IfOk};
+ghost use Rattle.std.specs.Prelude.{◌≡◌, ◌≤◌, ℕ, length, IfOk, OnErr};
 ghost use Rattle.world_play.specs.Types.who;
-ghost use Rattle.world_play.specs.Turns.{IsReady, Turned};
+ghost use Rattle.world_play.specs.Turns.{IsReady, Turned, Broken};
+ghost use Rattle.world_play.specs.Variables.{shown};
 
 use crate::collection::full;
 use crate::lane::{close, make, open, root};
@@ -44,7 +45,8 @@ pub(crate) fn turn<S: Shape, E: Engine<S>>(
 ) -> Result<Reply, AllocError>
     requires some { 1 ≤ budget }
     requires ready { IsReady S.sizes (E.history engine.old) (E.holds engine.old) lanes.old played (length classes.now) line.who line.cmd }
-    ensures { IfOk result (λ reply. Turned S.sizes budget (E.history engine.old) (E.history engine.new) (E.holds engine.new) lanes.old lanes.new played line.who line.cmd reply) }
+    ensures turned { IfOk result (λ reply. Turned S.sizes budget (E.history engine.old) (E.history engine.new) (E.holds engine.new) lanes.old lanes.new played line.who line.cmd reply) }
+    ensures broken { OnErr result (Broken S.sizes budget (E.history engine.old) (E.history engine.new) (shown lanes.old) line.who line.cmd) }
 {
     match line.who {
         Who::Lane(lane) => Ok(lane_turn::<S, E>(engine, classes, lanes, played, lane, line.cmd)),

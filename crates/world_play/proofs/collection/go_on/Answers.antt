@@ -1,10 +1,13 @@
-use Rattle.std.proofs.Common.{List, [], ◌∷◌, ◌++◌, sym, ap, ◌∙◌, arith}
+use Rattle.std.proofs.Common.{List, [], ◌∷◌, ◌++◌, length, sym, ap, ◌∙◌, arith}
 use Rattle.world_model.specs.Calls.{by}
-use Rattle.world_play.specs.Types.{Entry, Collector}
+use Rattle.world_play.specs.Types.{Name, Entry, Collector}
 use Rattle.world_play.specs.Types.act
 use Rattle.world_play.specs.Types.commit
 use Rattle.world_play.specs.Types.reply
-use Rattle.world_play.proofs.Collecting.{committed_all}
+use Rattle.world_play.proofs.Collecting.{committed_all, goes_on_some}
+use Rattle.world_play.proofs.Order.{sorted_names}
+use Rattle.world_play.proofs.Streams.{err_holds}
+use Rattle.world_play.specs.Text.{in_name_order}
 use Rattle.world_play.proofs.collection.go_on.Goals as goal
 
 pub sweep_all-requires-clause-gathering : goal.sweep_all-requires-clause-gathering
@@ -23,19 +26,25 @@ returns g c =
     let marks = c.mark_all.ensures.marks in
     let finds = c.in_ok-names.ensures.finds in
     let committed = committed_all _ _ _ _ c.commit.ensures.entries marks.now marks.black in
+    let found = finds.names ∙ ap (λ (names : List Name). names ++ c.in_ok-names.names.items) committed.3 in
+    let sorted = sorted_names _ _ c.sort_unstable.ensures.permutation c.sort_unstable.ensures.sorted in
     rw (c.left-left.ensures.same, c.from_vec.ensures) (record {
-      slices = marks.slices;
-      sweeps = finds.sweeps;
-      found = c.in_ok-names.names.items;
-      names = c.sort_unstable.new.self.items;
-      marked = marks.marked;
-      swept = finds.swept;
-      grown = finds.grown ∙ ap (λ (h : List Entry). h ++ by Collector finds.sweeps) (committed.2 ∙ ap (λ (h : List Entry). h ++ by Collector (act.CommitGc commit.Done ∷ [])) marks.grown);
-      same = c.sort_unstable.ensures.permutation;
-      in_order = c.sort_unstable.ensures.sorted;
-      answer = λ i. reply.FullGc ((c.len-removed.ensures ∙ c.sort_unstable.ensures.len ∙ c.in_ok-names.names.ok.0) i) (c.left-left.ensures.left i) c.sort_unstable.new.self.items;
-      legal = finds.legal;
-      alone = finds.alone;
-      opened = finds.opened ∙ committed.1 ∙ marks.now.closed ∙ sym c.requires.marking.closed;
-      held = λ lane r h. c.left-left.ensures.held lane r (c.in_ok-names.ensures.held lane r (c.commit.ensures.held lane r (c.mark_all.ensures.held lane r h)));
+      all = record {
+        slices = marks.slices;
+        sweeps = finds.sweeps;
+        marked = marks.marked;
+        swept = finds.swept;
+        grown = finds.grown ∙ ap (λ (h : List Entry). h ++ by Collector finds.sweeps) (committed.2 ∙ ap (λ (h : List Entry). h ++ by Collector (act.CommitGc commit.Done ∷ [])) marks.grown);
+        answer = λ i. reply.FullGc ((c.len-removed.ensures ∙ c.sort_unstable.ensures.len ∙ c.in_ok-names.names.ok.0 ∙ ap length (sym found)) i) (c.left-left.ensures.left i) ((sorted ∙ ap in_name_order (sym found)) i);
+        legal = finds.legal;
+        alone = finds.alone;
+        opened = finds.opened ∙ committed.1 ∙ marks.now.closed ∙ sym c.requires.marking.closed;
+        held = λ lane r h. c.left-left.ensures.held lane r (c.in_ok-names.ensures.held lane r (c.commit.ensures.held lane r (c.mark_all.ensures.held lane r h)));
+      };
+      some = tt;
     })
+
+pub returns-in_err-names-clause-some : goal.returns-in_err-names-clause-some
+returns-in_err-names-clause-some g c =
+    let marks = c.mark_all.ensures.marks in
+    err_holds _ _ (goes_on_some _ _ _ _ _ _ marks (committed_all _ _ _ _ c.commit.ensures.entries marks.now marks.black).2 c.in_err-names.ensures.some)

@@ -1,5 +1,6 @@
 use Rattle.std.proofs.Common.{◌≡◌, ℕ, ◌⊎◌, inl, inr, ◌∙◌}
-use Rattle.world_play.proofs.Collecting.{finds_more, finds_all, finds_less}
+use Rattle.world_play.proofs.Collecting.{finds_more, finds_all, finds_less, finds_some}
+use Rattle.world_play.proofs.Streams.{err_holds}
 use Rattle.world_play.proofs.collection.sweep_all.Goals as goal
 
 -- the buffer has room for as many names as the budget has items
@@ -22,5 +23,9 @@ sweeps-smaller g c = finds_less _ _ _ _ _ _ c.sweep-swept.ensures.entries c.in-M
 pub returns-in_default : goal.returns-in_default
 returns-in_default g c = rw c.in_ok-extend_from_slice.ensures.items (record {
   finds = finds_all _ _ _ _ _ _ _ _ c.sweeps.invariant.on c.sweep-swept.ensures.entries c.in_default.not-More;
+  some = tt;
   held = λ lane r h. c.sweep-swept.ensures.held lane r (c.sweeps.invariant.held lane r h);
 })
+
+pub returns-in_err-extend_from_slice-clause-some : goal.returns-in_err-extend_from_slice-clause-some
+returns-in_err-extend_from_slice-clause-some g c = err_holds _ _ (finds_some _ _ _ _ _ _ _ _ c.sweeps.invariant.on c.sweep-swept.ensures.entries (λ more. within _ _ _ _ (c.sweep-swept.ensures.more more) c.sweeps.invariant.room))

@@ -1,4 +1,4 @@
-use Rattle.std.proofs.Common.{◌≡◌, ◌+◌, ℕ, refl, ap, ◌∙◌, arith, length, inl, inr, [], ◌∷◌, get_or, Some, None}
+use Rattle.std.proofs.Common.{◌≡◌, ◌+◌, ℕ, refl, sym, ap, ◌∙◌, arith, length, inl, inr, [], ◌∷◌, get_or, Option, Some, None}
 use Rattle.std.proofs.lemmas.List.{length-set}
 use Rattle.std.proofs.lemmas.Option.{slice_get-get_or}
 use Rattle.world_model.specs.World.{made}
@@ -7,10 +7,10 @@ use Rattle.world_model.proofs.Solo.{slices_closed}
 use Rattle.world_play.specs.Types.{Name, Ref, Kind}
 use Rattle.world_play.specs.Types.act
 use Rattle.world_play.specs.Types.reply
-use Rattle.world_play.specs.Plays.{bound}
+use Rattle.world_play.specs.Plays.{bound, object_of}
 use Rattle.world_play.specs.Variables.{shown}
 use Rattle.world_play.proofs.Keeping.{bind_shown, bind_kept, kept_on, numbers_set}
-use Rattle.world_play.proofs.Turning.{make_frames, refuse_frames, fit_lane, fit_var, first_name}
+use Rattle.world_play.proofs.Turning.{make_frames, refuse_frames, fit_lane, fit_var, first_name, said_alone, said_refused, refused_none}
 use Rattle.world_play.proofs.lane.make.Goals as goal
 
 pub returns-in-Ok : goal.returns-in-Ok
@@ -30,11 +30,10 @@ returns-in-Ok g c budget =
       turn = (
         _,
         h.grown,
-        inl (
-          count,
-          (h.acts, h.call ∙ ap (λ (k : Kind). act.Make (k ∷ []) count ∷ []) c.kind-kind.ensures.kind, refl),
-          ap (reply.New lane) name,
-          bind_shown lanes lane c.args.var l _ (Some new) at inside c.bind.ensures.frame c.bind.ensures.slots var ∙ ap (λ (n : Name). bound (shown lanes) lane c.args.var (Some n)) name,
+        (
+          inl (count, (h.acts, h.call ∙ ap (λ (k : Kind). act.Make (k ∷ []) count ∷ []) c.kind-kind.ensures.kind, refl)),
+          ap (reply.New lane) name ∙ said_alone lane _ h.acts h.call,
+          bind_shown lanes lane c.args.var l _ (Some new) at inside c.bind.ensures.frame c.bind.ensures.slots var,
         ),
       );
       frames = make_frames _ _ _ _ _ _ h;
@@ -54,7 +53,16 @@ returns-in-Err g c budget =
     let at = slice_get-get_or lanes lane c.index-lanes-lane-in-Err.result inside in
     let var = fit_var lane c.args.var _ lanes l _ _ at c.requires.fit in
     record {
-      turn = (_, h.grown, inr (c.in-Err.why, (h.acts, h.call, refl), c.refusal.ensures, bind_shown lanes lane c.args.var l _ None at inside c.bind-in-Err.ensures.frame c.bind-in-Err.ensures.slots var));
+      turn = (
+        _,
+        h.grown,
+        (
+          inr (c.in-Err.why, (h.acts, h.call, refl)),
+          c.refusal.ensures ∙ said_refused _ lane 1 c.in-Err.why h.acts h.call,
+          bind_shown lanes lane c.args.var l _ None at inside c.bind-in-Err.ensures.frame c.bind-in-Err.ensures.slots var
+              ∙ ap (λ (o : Option Name). bound (shown lanes) lane c.args.var o) (sym (ap object_of c.refusal.ensures ∙ refused_none lane 1 c.in-Err.why)),
+        ),
+      );
       frames = refuse_frames _ _ _ _ _ _ h;
       numbers = numbers_set _ lane l _ at (ap length c.bind-in-Err.ensures.slots ∙ length-set _ _ _);
       legal = h.legal;

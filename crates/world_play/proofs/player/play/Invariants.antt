@@ -1,10 +1,9 @@
-use Rattle.std.proofs.Common.{◌≡◌, ◌≤◌, List, true, take, drop, length, flat_map, IsTrue}
+use Rattle.std.proofs.Common.{◌≡◌, ◌≤◌, List, true, take, drop, length, IsTrue}
 use Rattle.world_model.specs.State.{beginning}
 use Rattle.world_model.specs.Histories.{after, Legal}
 use Rattle.world_model.specs.Engines.{no_slice}
-use Rattle.world_play.specs.Types.{Reply}
-use Rattle.world_play.specs.Plays.{no_bindings, Plays, are_fit}
-use Rattle.world_play.specs.Text.{text_of}
+use Rattle.world_play.specs.Types.{Entry}
+use Rattle.world_play.specs.Plays.{no_bindings, Plays, text, entries_of, are_fit}
 use Rattle.world_play.specs.Streams.{Gained}
 use Rattle.world_play.specs.Variables.{numbers_of, shown, AreKept}
 use Rattle.world_play.specs.Turns.{frames_of}
@@ -14,7 +13,10 @@ abbrev pub invariant-loop-played : goal.invariant-loop-played
 invariant-loop-played g l =
     let history = g.E.Engine.history in
     record {
-      plays : (replies : List Reply) × Plays l.budget beginning no_bindings (take l.played l.lines) (history l.engine) replies (shown l.lanes) × Gained (g.K.Sink.held l.fn.out) (g.K.Sink.held l.out) (flat_map text_of replies);
+      pieces : List (List Entry);
+      plays : Plays l.budget beginning no_bindings (take l.played l.lines) pieces (shown l.lanes);
+      cut : history l.engine ≡ entries_of pieces;
+      put : Gained (g.K.Sink.held l.fn.out) (g.K.Sink.held l.out) (text beginning (take l.played l.lines) pieces);
       fit : are_fit g.S.Shape.sizes.lanes l.counts (length l.classes) (frames_of (after (history l.engine))) (drop l.played l.lines) ≡ true;
       numbers : numbers_of l.lanes ≡ l.counts;
       legal : Legal g.S.Shape.sizes (history l.engine);

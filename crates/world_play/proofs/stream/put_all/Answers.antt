@@ -1,6 +1,6 @@
 use Rattle.std.proofs.Common.{◌≡◌, ◌-◌, ◌≤◌, length, take, drop, ap, arith, length-drop}
 use Rattle.std.proofs.lemmas.List.{take_all}
-use Rattle.world_play.proofs.Streams.{gained_more}
+use Rattle.world_play.proofs.Streams.{gained_more, start_failed, start_nothing, err_holds}
 use Rattle.world_play.proofs.stream.put_all.Goals as goal
 
 pub loop-at-preserved : goal.loop-at-preserved
@@ -13,3 +13,11 @@ loop-at-preserved g c =
       inside = omega arith;
       gained = gained_more _ _ _ c.args.bytes.now _ c.loop-at.at c.in_ok-count.count whole c.loop-at.invariant.gained c.in_ok-count.ensures.bytes;
     }
+
+pub returns-in_err-count-clause-start : goal.returns-in_err-count-clause-start
+returns-in_err-count-clause-start g c =
+    err_holds _ _ (start_failed _ _ _ c.args.bytes.now _ c.loop-at.at _ c.loop-at-test.true c.loop-at.invariant.gained c.in_err-count.ensures.bytes)
+
+pub returns-then-count-eq0-clause-start : goal.returns-then-count-eq0-clause-start
+returns-then-count-eq0-clause-start g c =
+    start_nothing _ _ _ c.args.bytes.now _ c.loop-at.at c.in_ok-count.count c.if-count-eq0.true c.loop-at-test.true c.loop-at.invariant.gained c.in_ok-count.ensures.bytes

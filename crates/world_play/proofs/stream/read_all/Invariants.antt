@@ -1,5 +1,5 @@
-use Rattle.std.proofs.Common.{◌≡◌, ◌+◌, ◌-◌, ◌≤◌, ◌++◌, List, ℕ, length, Some}
-use Rattle.std.specs.Prelude.{MatchOption}
+use Rattle.std.proofs.Common.{◌+◌, ◌-◌, ◌≤◌, length}
+use Rattle.world_play.proofs.Streams.{ReadOn}
 use Rattle.world_play.proofs.stream.read_all.Given as goal
 
 abbrev pub invariant-loop-buf : goal.invariant-loop-buf
@@ -7,7 +7,8 @@ invariant-loop-buf g l =
     let left = g.S.Source.left in
     record {
       later : g.S.Source.faults l.fn.source ≤ g.S.Source.faults l.source;
-      bytes : MatchOption (left l.fn.source) (Unit {0}) (λ xs. (rest : List ℕ) × (left l.source ≡ Some rest) × (xs ≡ l.all.items ++ rest));
+      inside : length l.all.items ≤ l.limit + 1;
+      bytes : ReadOn (left l.fn.source) (left l.source) l.all.items;
     }
 
 abbrev pub decreases-loop-buf : goal.decreases-loop-buf

@@ -1,0 +1,128 @@
+-- The text of each reply is one line: its one line feed stands at its end.
+use Rattle.std.proofs.Common.{◌≡◌, ◌≢◌, ℕ, zero, suc, ◌+◌, ◌<◌, ◌/◌, ◌%◌, ◌==◌, Bool, true, false, cond, List, [], ◌∷◌, ◌++◌, append_assoc, flat_map, refl, sym, ap, ◌∙◌, arith}
+use Rattle.std.specs.Prelude.{codes, decimal, nat_lt}
+use Rattle.std.specs.Fmt.{digit_glyph, digits_onto, digits}
+use Rattle.std.proofs.lemmas.Bool.Decides.{nat_tests}
+use Rattle.std.proofs.lemmas.List.Sums.{sum_by-append, sum_by-cons}
+use Rattle.world_play.specs.Types.{Name, Phase, Idle, Marking, Gathering, Reply}
+use Rattle.world_play.specs.Types.reply
+use Rattle.world_play.specs.Text.{phase_text, name_text, names_text, text_of}
+use Rattle.world_play.specs.Streams.{IsStart}
+use Rattle.world_play.specs.Ends.{line_feeds}
+
+-- no byte is a line feed
+pub record IsPlain (bytes : List ℕ) : Type 0 where
+  pub none : line_feeds bytes ≡ 0
+
+pub feeds_append : (xs ys : List ℕ) → line_feeds (xs ++ ys) ≡ line_feeds xs + line_feeds ys
+feeds_append xs ys = sum_by-append (λ b. cond (b == 10) 1 0) xs ys
+
+plain_append : (xs ys : List ℕ) → IsPlain xs → IsPlain ys → IsPlain (xs ++ ys)
+plain_append xs ys a b = record { none = omega (arith, feeds_append xs ys, a.none, b.none) }
+
+plain_digit : (d : ℕ) (acc : List ℕ) → d < 10 → IsPlain acc → IsPlain (digit_glyph false d ∷ acc)
+plain_digit d acc small plain =
+    let t : nat_lt d 10 ≡ true = grind (arith, nat_tests, small) in
+    let other : (48 + d == 10) ≡ false = grind (arith, nat_tests) in
+    record { none = sum_by-cons (λ b. cond (b == 10) 1 0) (digit_glyph false d) acc ∙ rw (t, other) (omega (arith, plain.none)) }
+
+plain_onto : (k n : ℕ) (acc : List ℕ) → IsPlain acc → IsPlain (digits_onto k 10 false n acc)
+plain_onto zero n acc plain = plain
+plain_onto (suc k) n acc plain =
+    let more : IsPlain (digit_glyph false (n % 10) ∷ acc) = plain_digit (n % 10) acc (omega arith) plain in
+    either (n / 10 == 0) _ _ more (plain_onto k (n / 10) _ more)
+  where
+    either : (b : Bool) (xs ys : List ℕ) → IsPlain xs → IsPlain ys → IsPlain (cond b xs ys)
+    either true xs ys x y = x
+    either false xs ys x y = y
+
+plain_decimal : (n : ℕ) → IsPlain (decimal n)
+unfolding digits
+plain_decimal n = plain_onto 64 n [] (record { none = refl })
+
+plain_phase : (phase : Phase) → IsPlain (phase_text phase)
+plain_phase Idle = record { none = refl }
+plain_phase Marking = record { none = refl }
+plain_phase Gathering = record { none = refl }
+
+plain_name : (n : Name) → IsPlain (name_text n)
+plain_name n = plain_append (codes " ") _ (record { none = refl }) (plain_append (decimal n.lane) _ (plain_decimal n.lane) (plain_append (codes ":") _ (record { none = refl }) (plain_decimal n.count)))
+
+plain_list : (names : List Name) → IsPlain (flat_map name_text names)
+plain_list [] = record { none = refl }
+plain_list (n ∷ names) = plain_append (name_text n) _ (plain_name n) (plain_list names)
+
+plain_names : (names : List Name) → IsPlain (names_text names)
+plain_names [] = record { none = refl }
+plain_names (n ∷ names) = plain_append (codes ":") _ (record { none = refl }) (plain_list (n ∷ names))
+
+-- a text that ends with its one line feed
+pub record IsLine (bytes : List ℕ) : Type 0 where
+  pub body : List ℕ
+  pub plain : IsPlain body
+  pub is : bytes ≡ body ++ 10 ∷ []
+
+-- a line with more before it
+before : (xs ys : List ℕ) → IsPlain xs → IsLine ys → IsLine (xs ++ ys)
+before xs ys plain l = record { body = xs ++ l.body; plain = plain_append xs l.body plain l.plain; is = ap (λ (zs : List ℕ). xs ++ zs) l.is ∙ sym (append_assoc xs l.body (10 ∷ [])) }
+
+-- a line with words before it
+words : (xs ys : List ℕ) → line_feeds xs ≡ 0 → IsLine ys → IsLine (xs ++ ys)
+words xs ys none l = before xs ys (record { none = none }) l
+
+ends : IsLine (codes "\n")
+ends = record { body = []; plain = record { none = refl }; is = refl }
+
+plain_was : (was : Bool) → IsPlain (cond was (codes "on") (codes "off"))
+plain_was true = record { none = refl }
+plain_was false = record { none = refl }
+
+pub is_line : (r : Reply) → IsLine (text_of r)
+is_line (reply.Opened lane phase) = before (decimal lane) _ (plain_decimal lane) (words (codes " open ") _ refl (before (phase_text phase) _ (plain_phase phase) ends))
+is_line (reply.Closed lane) = before (decimal lane) _ (plain_decimal lane) (words (codes " close") (codes "\n") refl ends)
+is_line (reply.New lane n) =
+    before (decimal lane) _ (plain_decimal lane)
+    (words (codes " new ") _ refl (before (decimal n.lane) _ (plain_decimal n.lane) (words (codes ":") _ refl (before (decimal n.count) _ (plain_decimal n.count) ends))))
+is_line (reply.Full lane free) = before (decimal lane) _ (plain_decimal lane) (words (codes " full ") _ refl (before (decimal free) _ (plain_decimal free) ends))
+is_line (reply.NamesSpent lane left) = before (decimal lane) _ (plain_decimal lane) (words (codes " names spent ") _ refl (before (decimal left) _ (plain_decimal left) ends))
+is_line (reply.WasRoot lane was) = before (decimal lane) _ (plain_decimal lane) (words (codes " was ") _ refl (before (cond was (codes "on") (codes "off")) _ (plain_was was) ends))
+is_line (reply.NoObject lane) = before (decimal lane) _ (plain_decimal lane) (words (codes " none") (codes "\n") refl ends)
+is_line (reply.Running phase) = words (codes "gc running ") _ refl (before (phase_text phase) _ (plain_phase phase) ends)
+is_line (reply.Purging left) = words (codes "gc purging ") _ refl (before (decimal left) _ (plain_decimal left) ends)
+is_line (reply.Pending frames) = words (codes "gc pending frames ") _ refl (before (decimal frames) _ (plain_decimal frames) ends)
+is_line (reply.FullGc removed left names) =
+    words (codes "gc full removed ") _ refl
+    (before (decimal removed) _ (plain_decimal removed) (words (codes " left ") _ refl (before (decimal left) _ (plain_decimal left) (before (names_text names) _ (plain_names names) ends))))
+
+-- a line has one line feed, and is not empty
+pub one_feed : (bytes : List ℕ) → IsLine bytes → line_feeds bytes ≡ 1
+one_feed bytes l = ap line_feeds l.is ∙ omega (arith, feeds_append l.body (10 ∷ []), l.plain.none)
+
+pub line_some : (bytes : List ℕ) → IsLine bytes → bytes ≢ []
+line_some bytes line none = let one = one_feed bytes line in let zero_feeds : line_feeds bytes ≡ 0 = ap line_feeds none in omega arith
+
+abbrev tail_of : List ℕ → List ℕ
+tail_of [] = []
+tail_of (y ∷ ys) = ys
+
+nothing_behind : (xs ys : List ℕ) → xs ++ ys ≡ [] → ys ≡ []
+nothing_behind [] ys e = e
+nothing_behind (y ∷ xs) ys e = absurd cc
+
+-- what is behind a cut of a line, if it is anything, has the line feed
+tail_feeds : (some more body : List ℕ) → more ≢ [] → some ++ more ≡ body ++ 10 ∷ [] → 0 < line_feeds more
+tail_feeds [] more body other is = let e : line_feeds more ≡ line_feeds (body ++ 10 ∷ []) = ap line_feeds is in omega (arith, e, feeds_append body (10 ∷ []))
+tail_feeds (x ∷ some) more [] other is = absurd (other (nothing_behind some more (ap tail_of is)))
+tail_feeds (x ∷ some) more (y ∷ body) other is = tail_feeds some more body other (ap tail_of is)
+
+-- a beginning of a line has no line feed
+pub start_plain : (some bytes : List ℕ) → IsStart some bytes → IsLine bytes → line_feeds some ≡ 0
+start_plain some bytes (more, other, is) line =
+    let one = one_feed bytes line in
+    let both : line_feeds bytes ≡ line_feeds (some ++ more) = ap line_feeds is in
+    let behind = tail_feeds some more line.body other (sym is ∙ line.is) in
+    omega (arith, one, both, feeds_append some more, behind)
+
+-- nothing is a beginning of a reply's text
+pub start_none : (r : Reply) → IsStart [] (text_of r)
+start_none r = (text_of r, line_some (text_of r) (is_line r), refl)

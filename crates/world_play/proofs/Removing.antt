@@ -1,0 +1,320 @@
+-- What a whole collection removes and finds in a legal history, where no object refers to another.
+use Rattle.std.proofs.Common.{◌≡◌, ℕ, ◌+◌, refl, sym, subst, ap, ◌∙◌, inl, inr, Bool, cond, true, false, not, ◌&&◌, List, [], ◌∷◌, ◌++◌, append_assoc, map, Option, Some, None, ◌⊎◌, filter}
+use Rattle.std.specs.List.{list_any, list_all, flat_map}
+use Rattle.std.proofs.lemmas.Bool.{both_ways, not-true, false_from_ne_true}
+use Rattle.world_model.specs.Sizes.{Sizes}
+use Rattle.world_model.specs.NameLists.{same_name, has, all_different, members}
+use Rattle.world_model.specs.World.{World, Stage, Removal, Removed, has_stage, is_at}
+use Rattle.world_model.specs.Reach.{graph, IsUnit, IsRootUnit, Walk, IsReached}
+use Rattle.world_model.specs.State.{State, Marks, is_marked, white_units}
+use Rattle.world_model.specs.CollectorSteps.{IsIdle, Sweeps, SweepMay}
+use Rattle.world_model.specs.Next.{next, run, committed, with_found, settled}
+use Rattle.world_model.specs.Histories.{state_of, after, Legal, LegalFrom}
+use Rattle.world_model.specs.Calls.{by, SlicesUntilIdle}
+use Rattle.world_model.specs.Laws.{started, done, KeepsReached}
+use Rattle.world_model.proofs.ListFacts.{and_true, or_true, or_right, Among, contains_among, among_contains, filter_among, among_filter_test}
+use Rattle.world_model.proofs.NameFacts.{same_name_true}
+use Rattle.world_model.proofs.Joins.{run-append, by-append, legal_split, legal_join}
+use Rattle.world_model.proofs.Collections.{AllMark, slice_marks, keeps_mark, collect_is_exact_holds}
+use Rattle.world_model.proofs.Progress.{marks_leave}
+use Rattle.heap_plain.proofs.WorldFacts.{has_among, among_has, among_test, test_among}
+use Rattle.world_play.specs.Types.{Name, Phase, Idle, Marking, Swept, SweepStop, Pass, Marker, Collector, Act, Entry}
+use Rattle.world_play.specs.Types.act
+use Rattle.world_play.specs.Types.begin
+use Rattle.world_play.specs.Types.sweep
+use Rattle.world_play.specs.Plays.{SweepsMore, SweepsAll, Collected, first_begin}
+use Rattle.world_play.specs.Outcome.{Scene, unreached, collected}
+use Rattle.world_play.proofs.Different.{NoneShared, has_append, different_append, different_filter, members_different}
+
+-- ---- what a world shows
+
+abbrev pub names_of : List Removal → List Name
+names_of removals = map (λ (r : Removal). r.name) removals
+
+abbrev pub scene_of : World → Scene
+scene_of w = record { kinds = w.kinds; units = w.units; rooted = w.rooted; opened = w.opened; removed = names_of w.removals }
+
+-- no collection runs, no object refers to another, and no strong pointer names one
+pub record AreStill (phase : Phase) (cell : Name → ℕ → Option Name) (strong : ℕ → ℕ → Option Name) : Type 0 where
+  pub idle : phase ≡ Idle
+  pub cells : (n : Name) (slot : ℕ) → cell n slot ≡ None
+  pub pointers : (lane number : ℕ) → strong lane number ≡ None
+
+abbrev pub IsCalm : World → Type 0
+IsCalm w = AreStill w.phase w.cell w.strong
+
+-- ---- what is reached
+
+-- nothing is no object
+none_some : {A : Type 0} (o : Option A) (x : A) → o ≡ None → o ≡ Some x → ⊥
+none_some o x none some = absurd cc
+
+-- a root unit has a rooted member, and no walk takes a step
+reached_rooted : (w : World) → IsCalm w → (u : List Name) → IsReached (graph w) u → list_any w.rooted u ≡ true
+reached_rooted w calm u h = ends h.rest h.walk
+  where
+    root : IsRootUnit (graph w) h.root → list_any w.rooted h.root ≡ true
+    root (n, own, inl rooted) = among_test w.rooted h.root n (has_among h.root n own) rooted
+    root (n, own, inr strong) = absurd (none_some (w.strong strong.0 strong.1) n (calm.pointers strong.0 strong.1) strong.2)
+
+    ends : (rest : List (List Name)) → Walk (graph w) h.root rest u → list_any w.rooted u ≡ true
+    ends [] walk = subst (λ (v : List Name). list_any w.rooted v ≡ true) walk (root h.is_root)
+    ends (next ∷ rest) walk = let step = walk.1 in absurd (none_some (w.cell step.from step.slot) step.to (calm.cells step.from step.slot) step.cell)
+
+rooted_reached : (w : World) (u : List Name) → IsUnit (graph w) u → list_any w.rooted u ≡ true → IsReached (graph w) u
+rooted_reached w u unit h =
+    let found = test_among w.rooted u h in
+    record { root = u; rest = []; unit = unit; is_root = (found.0, among_has u found.0 found.1, inl found.2); walk = refl }
+
+-- two tests of which each follows from the other
+same_test : (a b : Bool) → (a ≡ true → b ≡ true) → (b ≡ true → a ≡ true) → a ≡ b
+same_test true b f g = sym (f refl)
+same_test false b f g = sym (false_from_ne_true b (λ e. both_ways false refl (g e)))
+
+-- where the units that pass a test are the reached ones, the test says whether a member is rooted
+passes_reached : (w new : World) (test : List Name → Bool) → IsCalm w → new.units ≡ filter test w.units → KeepsReached (graph w) (graph new)
+    → (u : List Name) → Among w.units u → test u ≡ list_any w.rooted u
+passes_reached w new test calm are keeps u among = same_test (test u) (list_any w.rooted u) reached passes
+  where
+    reached : test u ≡ true → list_any w.rooted u ≡ true
+    reached e =
+        let kept : Among new.units u = subst (λ (units : List (List Name)). Among units u) (sym are) (filter_among test w.units u among e) in
+        reached_rooted w calm u ((keeps u).0 (among_contains new.units u kept))
+
+    passes : list_any w.rooted u ≡ true → test u ≡ true
+    passes e =
+        let stays : IsUnit (graph new) u = (keeps u).1 (rooted_reached w u (among_contains w.units u among) e) in
+        among_filter_test test w.units u (subst (λ (units : List (List Name)). Among units u) are (contains_among new.units u stays))
+
+-- ---- a commit
+
+filter_same : {A : Type 0} (p q : A → Bool) (xs : List A) → ((x : A) → Among xs x → p x ≡ q x) → filter p xs ≡ filter q xs
+filter_same p q [] same = refl
+filter_same p q (x ∷ xs) same =
+    ap (λ (b : Bool). cond b (x ∷ filter p xs) (filter p xs)) (same x (inl refl))
+    ∙ ap (λ (ys : List _). cond (q x) (x ∷ ys) ys) (filter_same p q xs (λ y h. same y (inr h)))
+
+names_of_new : (names : List Name) → names_of (map (λ n. record { name = n; stage = Removed; polls = 0 }) names) ≡ names
+names_of_new [] = refl
+names_of_new (n ∷ names) = ap (λ (rest : List Name). n ∷ rest) (names_of_new names)
+
+-- a commit that keeps the reached units leaves the scene that a collection leaves
+committed_scene : (m : Marks) (w : World) → IsCalm w → KeepsReached (graph w) (graph (committed m w)) → scene_of (committed m w) ≡ collected (scene_of w)
+committed_scene m w calm keeps =
+    let marks : (u : List Name) → Among w.units u → is_marked m u ≡ list_any w.rooted u = passes_reached w (committed m w) (is_marked m) calm refl keeps in
+    let stay : filter (is_marked m) w.units ≡ filter (list_any w.rooted) w.units = filter_same (is_marked m) (list_any w.rooted) w.units marks in
+    let go : white_units m w ≡ filter (λ u. not (list_any w.rooted u)) w.units =
+    filter_same (λ u. not (is_marked m u)) (λ u. not (list_any w.rooted u)) w.units (λ u h. ap not (marks u h)) in
+    let gone : members (white_units m w) ≡ unreached (scene_of w) = ap members go in
+    let removed : names_of (committed m w).removals ≡ unreached (scene_of w) = names_of_new (members (white_units m w)) ∙ gone in
+    λ i. record { kinds = w.kinds; units = stay i; rooted = λ n. w.rooted n && not (has (gone i) n); opened = w.opened; removed = removed i }
+
+-- ---- sweeps
+
+-- since this world sweeps have found different names of removed objects
+record Finds (w now : World) : Type 0 where
+  world : now ≡ record w { found = now.found; swept = now.swept }
+  different : all_different now.found ≡ true
+  removed : (n : Name) → has now.found n ≡ true → has (names_of w.removals) n ≡ true
+
+-- they have found all, and no collection runs
+record HasFound (w now : World) : Type 0 where
+  world : now ≡ record w { found = now.found; swept = now.swept; phase = Idle }
+  different : all_different now.found ≡ true
+  same : (n : Name) → has now.found n ≡ has (names_of w.removals) n
+
+-- what passes of all names passes of one of them
+all_has : (test : Name → Bool) (names : List Name) (n : Name) → list_all test names ≡ true → has names n ≡ true → test n ≡ true
+all_has test [] n all h = absurd cc
+all_has test (m ∷ names) n all h =
+    let both = and_true (test m) (list_all test names) all in
+    go both.0 (all_has test names n both.1) (or_true (same_name n m) (has names n) h)
+  where
+    go : test m ≡ true → (has names n ≡ true → test n ≡ true) → (same_name n m ≡ true) ⊎ (has names n ≡ true) → test n ≡ true
+    go first rest (inl e) = subst (λ (x : Name). test x ≡ true) (sym (same_name_true n m e)) first
+    go first rest (inr e) = rest e
+
+-- of the removals it passes of their names
+all_names : (test : Name → Bool) (removals : List Removal) → list_all (λ r. test r.name) removals ≡ list_all test (names_of removals)
+all_names test [] = refl
+all_names test (r ∷ removals) = ap (λ (b : Bool). test r.name && b) (all_names test removals)
+
+-- an object that is removed, at any stage
+removed_name : (stage : Stage) (removals : List Removal) (n : Name)
+    → list_any (λ r. same_name n r.name && has_stage stage r.stage) removals ≡ true → has (names_of removals) n ≡ true
+removed_name stage [] n h = absurd cc
+removed_name stage (r ∷ removals) n h = go (removed_name stage removals n) (or_true (same_name n r.name && has_stage stage r.stage) _ h)
+  where
+    go : (list_any (λ q. same_name n q.name && has_stage stage q.stage) removals ≡ true → has (names_of removals) n ≡ true)
+        → ((same_name n r.name && has_stage stage r.stage) ≡ true) ⊎ (list_any (λ q. same_name n q.name && has_stage stage q.stage) removals ≡ true)
+        → has (names_of (r ∷ removals)) n ≡ true
+    go rest (inl e) = let same : same_name n r.name ≡ true = (and_true _ _ e).0 in rw same refl
+    go rest (inr e) = or_right (same_name n r.name) _ (rest e)
+
+-- what a sweep finds is new, and removed
+finds_more : (w : World) (s : State) (budget : ℕ) (r : Swept) (names : List Name) → Finds w s.world → Sweeps s budget r names
+    → (all_different (s.world.found ++ names) ≡ true) × ((n : Name) → has (s.world.found ++ names) n ≡ true → has (names_of w.removals) n ≡ true)
+finds_more w s budget r names h may = (
+  different_append s.world.found names h.different may.different new,
+  λ n e. removed n (or_true (has s.world.found n) (has names n) (sym (has_append s.world.found names n) ∙ e)),
+)
+  where
+    new : NoneShared s.world.found names
+    new n old = false_from_ne_true (has names n)
+        (λ e. both_ways (has s.world.found n) (not-true (has s.world.found n) (all_has (λ m. not (has s.world.found m)) names n may.new e)) old)
+
+    removed : (n : Name) → (has s.world.found n ≡ true) ⊎ (has names n ≡ true) → has (names_of w.removals) n ≡ true
+    removed n (inl e) = h.removed n e
+    removed n (inr e) =
+        removed_name Removed w.removals n (subst (λ (v : World). is_at v Removed n ≡ true) h.world (all_has (is_at s.world Removed) names n may.removed e))
+
+-- the world after a sweep
+swept_world : (w : World) (s : State) (r : Swept) (names : List Name) (stop : SweepStop) → Finds w s.world → r.stop ≡ stop
+    → with_found s.world r names ≡ record w { found = s.world.found ++ names; swept = s.world.swept + r.looked; phase = settled w.phase stop }
+swept_world w s r names stop h is =
+    ap (λ (v : World). with_found v r names) h.world
+    ∙ ap (λ (why : SweepStop). record w { found = s.world.found ++ names; swept = s.world.swept + r.looked; phase = settled w.phase why }) is
+
+finds_on : (z : Sizes) (w : World) (s : State) (budget : ℕ) (acts : List Act) → Finds w s.world → LegalFrom z s (by Collector acts) → SweepsMore budget acts
+    → Finds w (run s (by Collector acts)).world
+finds_on z w s budget [] h legal more = h
+finds_on z w s budget (act.Sweep b r names ∷ rest) h legal more =
+    let may : SweepMay z s b r names sweep.More = subst (SweepMay z s b r names) more.1 legal.0.may in
+    let found = finds_more w s b r names h may.0 in
+    let one : Finds w (with_found s.world r names) = record { world = swept_world w s r names sweep.More h more.1; different = found.0; removed = found.1 } in
+    finds_on z w (next s (record { pass = Collector; act = act.Sweep b r names })) budget rest one legal.1 more.3
+finds_on z w s budget (a ∷ rest) h legal more = absurd more
+
+finds_last : (z : Sizes) (w : World) (s : State) (budget : ℕ) (r : Swept) (names : List Name)
+    → Finds w s.world → LegalFrom z s (by Collector (act.Sweep budget r names ∷ [])) → r.stop ≡ sweep.Settled → HasFound w (with_found s.world r names)
+finds_last z w s budget r names h legal is =
+    let may : SweepMay z s budget r names sweep.Settled = subst (SweepMay z s budget r names) is legal.0.may in
+    let found = finds_more w s budget r names h may.0 in
+    let each : list_all (λ q. has (s.world.found ++ names) q.name) w.removals ≡ true =
+    subst (λ (v : World). list_all (λ q. has (s.world.found ++ names) q.name) v.removals ≡ true) h.world may.2 in
+    let all : list_all (has (s.world.found ++ names)) (names_of w.removals) ≡ true = sym (all_names (has (s.world.found ++ names)) w.removals) ∙ each in
+    record {
+      world = swept_world w s r names sweep.Settled h is;
+      different = found.0;
+      same = λ n. same_test _ _ (found.1 n) (all_has (has (s.world.found ++ names)) (names_of w.removals) n all);
+    }
+
+finds_all : (z : Sizes) (w : World) (s : State) (budget : ℕ) (sweeps : List Act)
+    → Finds w s.world → LegalFrom z s (by Collector sweeps) → SweepsAll budget sweeps → HasFound w (run s (by Collector sweeps)).world
+finds_all z w s budget sweeps h legal all =
+    let first : List Entry = by Collector all.more in
+    let last : List Act = act.Sweep budget all.last all.late ∷ [] in
+    let entries : by Collector sweeps ≡ first ++ by Collector last = ap (by Collector) all.are ∙ by-append Collector all.more last in
+    let parts = legal_split z s first (by Collector last) (subst (LegalFrom z s) entries legal) in
+    let left : run s (by Collector sweeps) ≡ run (run s first) (by Collector last) = ap (run s) entries ∙ run-append s first (by Collector last) in
+    subst (λ (t : State). HasFound w t.world) (sym left)
+    (finds_last z w (run s first) budget all.last all.late (finds_on z w s budget all.more h parts.0 all.stopped) parts.1 all.settled)
+
+-- ---- a whole collection
+
+marks_append : (xs ys : List Entry) → AllMark xs → AllMark ys → AllMark (xs ++ ys)
+marks_append [] ys g h = h
+marks_append (x ∷ xs) ys g h = (g.0, marks_append xs ys g.1 h)
+
+slices_mark : (s : State) (budget : ℕ) (slices : List (List Act)) → SlicesUntilIdle s budget slices → AllMark (flat_map (by (Marker 0)) slices)
+slices_mark s budget [] h = tt
+slices_mark s budget (last ∷ []) h = marks_append (by (Marker 0) last) [] (slice_marks s 0 budget _ last h.1) tt
+slices_mark s budget (acts ∷ next ∷ rest) h =
+    marks_append (by (Marker 0) acts) _ (slice_marks s 0 budget _ acts h.1) (slices_mark (run s (by (Marker 0) acts)) budget (next ∷ rest) h.2)
+
+-- what a whole collection comes upon, finds and leaves
+pub record HasCollected (w : World) (piece : List Entry) (new : World) : Type 0 where
+  pub begun : first_begin piece ≡ begin.Started
+  pub released : w.removals ≡ []
+  pub closed : w.opened ≡ []
+  pub gone : all_different (unreached (scene_of w)) ≡ true
+  pub found : all_different new.found ≡ true
+  pub same : (n : Name) → has new.found n ≡ has (unreached (scene_of w)) n
+  pub scene : scene_of new ≡ collected (scene_of w)
+  pub calm : IsCalm new
+
+module _ (z : Sizes) (budget : ℕ) (old piece : List Entry) (before : Legal z old) (calm : IsCalm (after old))
+    (legal : LegalFrom z (state_of old) piece) (h : Collected budget (state_of old) piece) where
+  abbrev s : State
+  s = state_of old
+
+  abbrev w : World
+  w = s.world
+
+  abbrev begins : List Entry
+  begins = by Collector h.begins
+
+  abbrev notes : List Entry
+  notes = by Collector (map act.Kept h.begun.of)
+
+  abbrev marks : List Entry
+  marks = flat_map (by (Marker 0)) h.slices
+
+  -- the entries before the commit, and those with it
+  abbrev front : List Entry
+  front = begins ++ marks
+
+  abbrev half : List Entry
+  half = front ++ done ∷ []
+
+  abbrev to_commit : State
+  to_commit = run s front
+
+  front_is : front ≡ started ∷ (notes ++ marks)
+  front_is = ap (λ (acts : List Act). by Collector acts ++ marks) h.begun.are
+
+  legal_half : LegalFrom z s half × LegalFrom z (run s half) (by Collector h.sweeps)
+  legal_half = legal_split z s half (by Collector h.sweeps) (subst (LegalFrom z s) h.are legal)
+
+  legal_front : LegalFrom z s front × LegalFrom z to_commit (done ∷ [])
+  legal_front = legal_split z s front (done ∷ []) legal_half.0
+
+  start_may : IsIdle s × (w.opened ≡ [])
+  start_may = (subst (LegalFrom z s) front_is legal_front.0).0.may
+
+  -- until the commit only the phase changes
+  committing : to_commit.world ≡ record w { phase = Marking }
+  committing =
+      let marking : State = run (next s started) (notes ++ marks) in
+      let same : to_commit ≡ marking = ap (run s) front_is in
+      let leaves = marks_leave (next s started) (notes ++ marks) (marks_append notes marks (keeps_mark h.begun.of) (slices_mark _ budget h.slices h.marked)) in
+      let closed : marking.world.opened ≡ w.opened = ap (λ (t : State). t.world.opened) (sym same) ∙ legal_front.1.0.may.closed ∙ sym start_may.1 in
+      ap (λ (t : State). t.world) same ∙ leaves ∙ ap (λ (opened : List Pass). record w { phase = Marking; opened = opened }) closed
+
+  -- the world after the commit
+  abbrev kept : World
+  kept = committed to_commit.marks w
+
+  half_world : (run s half).world ≡ kept
+  half_world = ap (λ (t : State). t.world) (run-append s front (done ∷ [])) ∙ ap (committed to_commit.marks) committing
+
+  keeps_reached : KeepsReached (graph w) (graph kept)
+  keeps_reached =
+      let world : after (old ++ half) ≡ kept = ap (λ (t : State). t.world) (run-append _ old half) ∙ half_world in
+      let grown : old ++ half ≡ (old ++ begins) ++ (marks ++ done ∷ []) =
+      ap (λ (xs : List Entry). old ++ xs) (append_assoc begins marks (done ∷ [])) ∙ sym (append_assoc old begins (marks ++ done ∷ [])) in
+      let joined : Legal z (old ++ half) = legal_join z _ old half before legal_half.0 in
+      subst (λ (v : World). KeepsReached (graph w) (graph v)) world
+      (collect_is_exact_holds z old (old ++ half) budget
+      (record { begins = h.begins; slices = h.slices; begun = h.begun; marked = h.marked; grown = grown; legal = joined }))
+
+  kept_scene : scene_of kept ≡ collected (scene_of w)
+  kept_scene = committed_scene to_commit.marks w calm keeps_reached
+
+  has_found : HasFound kept (run s piece).world
+  has_found =
+      let left : run s piece ≡ run (run s half) (by Collector h.sweeps) = ap (run s) h.are ∙ run-append s half (by Collector h.sweeps) in
+      let none : Finds kept (run s half).world = subst (Finds kept) (sym half_world) (record { world = refl; different = refl; removed = λ n e. absurd cc }) in
+      subst (λ (t : State). HasFound kept t.world) (sym left) (finds_all z kept (run s half) budget h.sweeps none legal_half.1 h.swept)
+
+  pub has_collected : HasCollected w piece (run s piece).world
+  has_collected = record {
+    begun = ap first_begin h.are ∙ ap (λ (xs : List Entry). first_begin ((xs ++ done ∷ []) ++ by Collector h.sweeps)) front_is;
+    released = start_may.0.released;
+    closed = start_may.1;
+    gone = different_filter _ w.units (members_different z old before);
+    found = has_found.different;
+    same = λ n. has_found.same n ∙ ap (λ (c : Scene). has c.removed n) kept_scene;
+    scene = ap scene_of has_found.world ∙ kept_scene;
+    calm = subst IsCalm (sym has_found.world) (record { idle = refl; cells = calm.cells; pointers = calm.pointers });
+  }
