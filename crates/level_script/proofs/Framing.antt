@@ -166,10 +166,10 @@ if_bound_some bound (Some m) n e = has_some (has_number bound m) e
     has_some true e = e
     has_some false e = absurd (cc)
 
--- a variable that is bound becomes a root
-rooted_facts : (classes : List Class) (lane : LaneNames) (var : List ℕ) (o : Option ℕ) → lane.opened ≡ true → bound_var lane var ≡ o → (left : LaneNames × Cmd) → root_of lane o ≡ Ok left → PairFacts classes lane left
-rooted_facts classes lane var None is found left e = err_ok e
-rooted_facts classes lane var (Some n) is found left e =
+-- the object of a variable that is bound becomes a root, or is one no longer
+rooted_facts : (classes : List Class) (lane : LaneNames) (var : List ℕ) (on : Bool) (o : Option ℕ) → lane.opened ≡ true → bound_var lane var ≡ o → (left : LaneNames × Cmd) → root_of lane on o ≡ Ok left → PairFacts classes lane left
+rooted_facts classes lane var on None is found left e = err_ok e
+rooted_facts classes lane var on (Some n) is found left e =
     let below = found_below lane.names var n (if_bound_some lane.bound (number_of_name lane.names var) n found) in
     subst (PairFacts classes lane) (ok_same e) (record {
       opened = refl;
@@ -177,17 +177,17 @@ rooted_facts classes lane var (Some n) is found left e =
       fit = λ vars count few some. (λ t. is t && below_true n (length lane.names) vars below few t);
     })
 
--- a variable becomes a root
-root_facts : (classes : List Class) (lane : LaneNames) (var : List ℕ) (b : Bool) → lane.opened ≡ b → (left : LaneNames × Cmd) → cond b (root_of lane (bound_var lane var)) (Err cause.Frame) ≡ Ok left → PairFacts classes lane left
-root_facts classes lane var false is left e = err_ok e
-root_facts classes lane var true is left e = rooted_facts classes lane var (bound_var lane var) is refl left e
+-- the same of a variable that may be bound
+root_facts : (classes : List Class) (lane : LaneNames) (var : List ℕ) (on b : Bool) → lane.opened ≡ b → (left : LaneNames × Cmd) → cond b (root_of lane on (bound_var lane var)) (Err cause.Frame) ≡ Ok left → PairFacts classes lane left
+root_facts classes lane var on false is left e = err_ok e
+root_facts classes lane var on true is left e = rooted_facts classes lane var on (bound_var lane var) is refl left e
 
 -- each step
 step_facts : (classes : List Class) (lane : LaneNames) (what : Does) (left : LaneNames × Cmd) → lane_step classes lane what ≡ Ok left → PairFacts classes lane left
 step_facts classes lane does.Open left e = open_facts classes lane lane.opened refl left e
 step_facts classes lane does.Close left e = close_facts classes lane lane.opened refl left e
 step_facts classes lane (does.New var class) left e = new_facts classes lane var class lane.opened refl left e
-step_facts classes lane (does.Root var) left e = root_facts classes lane var lane.opened refl left e
+step_facts classes lane (does.Root var on) left e = root_facts classes lane var on lane.opened refl left e
 
 -- ---- lines after one another
 
@@ -327,9 +327,9 @@ short_enough true r next e = err_ok e
 short_enough false r next e = e
 
 -- each line keeps it
-good_line : (limits : Limits) (c next : Context) (number : ℕ) (line : List ℕ) (later : List (List ℕ)) → Good limits c → line_turn number c line later ≡ Ok next → Good limits next
+good_line : (limits : Limits) (c next : Context) (number : ℕ) (line : List ℕ) → Good limits c → line_turn number c line ≡ Ok next → Good limits next
 unfolding line_turn
-good_line limits c next number line later g e = good_said limits c next number (said_by_line c.in_header line later) g (short_enough (nat_lt 200000 number) (turn number c line later) next e)
+good_line limits c next number line g e = good_said limits c next number (said_by_line c.in_header line) g (short_enough (nat_lt 200000 number) (turn number c line) next e)
 
 -- what is read on is read after a line
 on_ok : (number : ℕ) (r : Result Context Cause) (more : Context → Result Context ScriptErr) (last : Context) → read_on number r more ≡ Ok last → (next : Context) × (r ≡ Ok next) × (more next ≡ Ok last)
@@ -340,9 +340,9 @@ on_ok number (Ok next) more last e = (next, refl, e)
 good_lines : (limits : Limits) (lines : List (List ℕ)) (number : ℕ) (c last : Context) → Good limits c → read_from number c lines ≡ Ok last → Good limits last
 unfolding read_from
 good_lines limits [] number c last g e = subst (Good limits) (ok_same e) g
-good_lines limits (line ∷ later) number c last g e =
-    let h = on_ok number (line_turn number c line later) (λ next. read_from (number + 1) next later) last e in
-    good_lines limits later (number + 1) h.0 last (good_line limits c h.0 number line later g h.1) h.2
+good_lines limits (line ∷ lines) number c last g e =
+    let h = on_ok number (line_turn number c line) (λ next. read_from (number + 1) next lines) last e in
+    good_lines limits lines (number + 1) h.0 last (good_line limits c h.0 number line g h.1) h.2
 
 -- so many lanes
 length_copies : (n : ℕ) → length (replicate n closed_lane) ≡ n

@@ -39,16 +39,16 @@ unfolding read_from
 read_none number c = refl
 
 -- after a line that is read
-pub read_more : (number : ℕ) (c next : Context) (line : List ℕ) (later : List (List ℕ)) → line_turn number c line later ≡ Ok next → read_from number c (line ∷ later) ≡ read_from (number + 1) next later
+pub read_more : (number : ℕ) (c next : Context) (line : List ℕ) (lines : List (List ℕ)) → line_turn number c line ≡ Ok next → read_from number c (line ∷ lines) ≡ read_from (number + 1) next lines
 unfolding read_from
-read_more number c next line later e = ap (λ r. read_on number r (λ n. read_from (number + 1) n later)) e
+read_more number c next line lines e = ap (λ r. read_on number r (λ n. read_from (number + 1) n lines)) e
 
 -- at a line with a cause
-pub read_fault : (number : ℕ) (c : Context) (line : List ℕ) (later : List (List ℕ)) (why : Cause) → line_turn number c line later ≡ Err why → read_from number c (line ∷ later) ≡ Err (fault_at number why)
+pub read_fault : (number : ℕ) (c : Context) (line : List ℕ) (lines : List (List ℕ)) (why : Cause) → line_turn number c line ≡ Err why → read_from number c (line ∷ lines) ≡ Err (fault_at number why)
 unfolding read_from
-read_fault number c line later why e = ap (λ r. read_on number r (λ n. read_from (number + 1) n later)) e
+read_fault number c line lines why e = ap (λ r. read_on number r (λ n. read_from (number + 1) n lines)) e
 
 -- a fault of the first line is that of the lines
-pub reads_err : (A : Type 0) (number : ℕ) (c : Context) (line : List ℕ) (later : List (List ℕ)) (new left : Context) (error : ParseErr) → TurnsLine {A = A} (line_turn number c line later) number new (Err error) → ReadsLines {A = A} (read_from number c (line ∷ later)) left (Err error)
-reads_err A number c line later new left (parse.Bad fault) (why, e, is) = read_fault number c line later why e ∙ ap Err (sym is)
-reads_err A number c line later new left parse.Memory h = tt
+pub reads_err : (A : Type 0) (number : ℕ) (c : Context) (line : List ℕ) (lines : List (List ℕ)) (new left : Context) (error : ParseErr) → TurnsLine {A = A} (line_turn number c line) number new (Err error) → ReadsLines {A = A} (read_from number c (line ∷ lines)) left (Err error)
+reads_err A number c line lines new left (parse.Bad fault) (why, e, is) = read_fault number c line lines why e ∙ ap Err (sym is)
+reads_err A number c line lines new left parse.Memory h = tt

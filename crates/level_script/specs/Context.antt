@@ -81,9 +81,9 @@ abbrev pub if_said : ℕ → Context → Result Said Cause → Result Context Ca
 if_said number c (Ok what) = act_turn number c what
 if_said number c (Err why) = Err why
 
--- what is known after a line, before the later lines, or what is wrong with it
-abbrev pub turn : ℕ → Context → List ℕ → List (List ℕ) → Result Context Cause
-turn number c line later = if_said number c (said_by_line c.in_header line later)
+-- what is known after a line, or what is wrong with it
+abbrev pub turn : ℕ → Context → List ℕ → Result Context Cause
+turn number c line = if_said number c (said_by_line c.in_header line)
 
 -- the context that is left is what is wanted, and so is the cause; there may be no memory for it
 abbrev pub Turns : {A : Type 0} → Result Context Cause → Context → Result A Stop → Type 0

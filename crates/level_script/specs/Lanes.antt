@@ -1,5 +1,5 @@
 -- What a line of a lane does to the lane's frame and variables.
-use Rattle.std.specs.Prelude.{◌≡◌, ℕ, nat_lt, true, false, List, [], length, Option, Some, None, Result, Ok, Err, MatchOption, slice_get, slice_set, if◌then◌else◌}
+use Rattle.std.specs.Prelude.{◌≡◌, ℕ, nat_lt, Bool, true, false, List, [], length, Option, Some, None, Result, Ok, Err, MatchOption, slice_get, slice_set, if◌then◌else◌}
 use Rattle.world_model.specs.declared.kind.ClassId.{ClassId}
 use Rattle.level_script.specs.Class.{Class}
 use Rattle.level_script.specs.Classes.{find_class}
@@ -52,21 +52,21 @@ if_bound bound (Some number) = if has_number bound number then Some number else 
 abbrev pub bound_var : LaneNames → List ℕ → Option ℕ
 bound_var lane name = if_bound lane.bound (number_of_name lane.names name)
 
--- a variable that is bound
-abbrev pub root_of : LaneNames → Option ℕ → Result (LaneNames × Cmd) Cause
-root_of lane None = Err cause.UnknownName
-root_of lane (Some number) = Ok (lane, cmd.Root number true)
+-- the object of a variable becomes a root, or is one no longer, if the variable is bound
+abbrev pub root_of : LaneNames → Bool → Option ℕ → Result (LaneNames × Cmd) Cause
+root_of lane on None = Err cause.UnknownName
+root_of lane on (Some number) = Ok (lane, cmd.Root number on)
 
--- the object of a variable becomes a root
-abbrev pub root_step : LaneNames → List ℕ → Result (LaneNames × Cmd) Cause
-root_step lane var = if lane.opened then root_of lane (bound_var lane var) else Err cause.Frame
+-- the same, if the frame is open
+abbrev pub root_step : LaneNames → List ℕ → Bool → Result (LaneNames × Cmd) Cause
+root_step lane var on = if lane.opened then root_of lane on (bound_var lane var) else Err cause.Frame
 
 -- what a line of a lane does to it, and the command that it is
 abbrev pub lane_step : List Class → LaneNames → Does → Result (LaneNames × Cmd) Cause
 lane_step classes lane does.Open = open_step lane
 lane_step classes lane does.Close = close_step lane
 lane_step classes lane (does.New var class) = new_step classes lane var class
-lane_step classes lane (does.Root var) = root_step lane var
+lane_step classes lane (does.Root var on) = root_step lane var on
 
 -- the lane that a number names
 abbrev pub lane_index : ℕ → Number → Option ℕ

@@ -21,8 +21,8 @@ abbrev pub bad_at : ℕ → Cause → ParseErr
 bad_at number why = parse.Bad (fault_at number why)
 
 -- what is known after a line, or what is wrong with it; there are at most 200,000 lines
-unfoldable pub line_turn : ℕ → Context → List ℕ → List (List ℕ) → Result Context Cause
-line_turn number c line later = if nat_lt 200000 number then Err cause.TooLong else turn number c line later
+unfoldable pub line_turn : ℕ → Context → List ℕ → Result Context Cause
+line_turn number c line = if nat_lt 200000 number then Err cause.TooLong else turn number c line
 
 -- what is read on after a line
 abbrev pub read_on : ℕ → Result Context Cause → (Context → Result Context ScriptErr) → Result Context ScriptErr
@@ -32,7 +32,7 @@ read_on number (Err why) more = Err (fault_at number why)
 -- what is known after all lines, the first of which has this number, or the first fault
 unfoldable pub read_from : ℕ → Context → List (List ℕ) → Result Context ScriptErr
 read_from number c [] = Ok c
-read_from number c (line ∷ later) = read_on number (line_turn number c line later) (λ next. read_from (number + 1) next later)
+read_from number c (line ∷ lines) = read_on number (line_turn number c line) (λ next. read_from (number + 1) next lines)
 
 -- the script of lines that are read
 abbrev pub script_of_lines : Result Context ScriptErr → Result Script ScriptErr

@@ -1,11 +1,10 @@
 //! The words of a line, one level of the grammar a function.
-ghost use Rattle.std.specs.Prelude.{◌≡◌, MatchOption, Some, None, IsTrue};
-ghost use Rattle.level_script.specs.Forms.{is_digits, number_of};
-ghost use Rattle.level_script.specs.Lines.{line_words, input_lines};
-ghost use Rattle.level_script.specs.Commands.{pair_of, is_var_on, alone, same_number, roots, is_rooted_next, class_line, collector_line, new_command, root_command, lane_command, lane_line, said_by_words, said_by_line};
+ghost use Rattle.std.specs.Prelude.{◌≡◌, MatchOption, Some, None};
+ghost use Rattle.level_script.specs.Lines.{line_words};
+ghost use Rattle.level_script.specs.Commands.{pair_of, alone, class_line, collector_line, new_command, switch_of, root_command, lane_command, lane_line, said_by_words, said_by_line};
 
 use crate::cause::Cause;
-use crate::lines::{first_line, first_word, is_over};
+use crate::lines::{first_word, is_over};
 use crate::said::{Does, Said};
 use crate::word::{Number, is_comment, is_digits, read_identifier, read_number, read_variable};
 
@@ -56,88 +55,47 @@ fn collector_line<'a>(rest: &'a [u8]) -> Result<Said<'a>, Cause>
     }
 }
 
-fn same_number(left: &Number, right: &Number) -> bool
-    ensures { result ≡ same_number left.now right.now }
+fn new_command<'a>(rest: &'a [u8]) -> Result<Does<'a>, Cause>
+    ensures { result ≡ new_command (pair_of (line_words rest.now)) }
 {
-    match (*left, *right) {
-        (Number::Value(a), Number::Value(b)) => a == b,
-        (Number::OutOfRange, Number::OutOfRange) => true,
-        _ => false,
-    }
-}
-
-// Whether two words are a variable and `on`.
-fn is_pair_on(rest: &[u8], var: &[u8]) -> bool
-    ensures { result ≡ is_var_on var.now (pair_of (line_words rest.now)) }
-{
-    match pair(rest) {
-        Some((word, on)) => word == var && on == b"on".as_slice(),
-        None => false,
-    }
-}
-
-// Whether a line makes a variable of a lane a root.
-fn roots(lane: &Number, var: &[u8], line: &[u8]) -> bool
-    ensures { result ≡ roots lane.now var.now (line_words line.now) }
-{
-    let Some((first, rest)) = first_word(line) else {
-        return false;
-    };
-    let Some((second, rest)) = first_word(rest) else {
-        return false;
-    };
-    is_digits(first)
-        && same_number(&read_number(first), lane)
-        && second == b"root".as_slice()
-        && is_pair_on(rest, var)
-}
-
-// Whether the next line makes a variable of a lane a root.
-fn is_rooted_next(lane: &Number, var: &[u8], after: &[u8]) -> bool
-    ensures { result ≡ is_rooted_next lane.now var.now (input_lines after.now) }
-{
-    match first_line(after) {
-        Some((line, _)) => roots(lane, var, line),
-        None => false,
-    }
-}
-
-fn new_command<'a>(lane: &Number, rest: &'a [u8], after: &[u8]) -> Result<Does<'a>, Cause>
-    ensures { result ≡ new_command lane.now (pair_of (line_words rest.now)) (input_lines after.now) }
-{
-    let Some((word, class)) = pair(rest) else {
+    let Some((var, class)) = pair(rest) else {
         return Err(Cause::Words);
     };
-    let Some(var) = read_variable(word) else {
+    let Some(var) = read_variable(var) else {
         return Err(Cause::Words);
     };
     let Some(class) = read_identifier(class) else {
         return Err(Cause::Words);
     };
-    if is_rooted_next(lane, word, after) {
-        Ok(Does::New { var, class })
+    Ok(Does::New { var, class })
+}
+
+// True for `on`, false for `off`.
+fn read_switch(word: &[u8]) -> Option<bool>
+    ensures { result ≡ switch_of word.now }
+{
+    if word == b"on".as_slice() {
+        Some(true)
+    } else if word == b"off".as_slice() {
+        Some(false)
     } else {
-        Err(Cause::UnknownCommand)
+        None
     }
 }
 
 fn root_command<'a>(rest: &'a [u8]) -> Result<Does<'a>, Cause>
     ensures { result ≡ root_command (pair_of (line_words rest.now)) }
 {
-    let Some((word, on)) = pair(rest) else {
+    let Some((var, on)) = pair(rest) else {
         return Err(Cause::Words);
     };
-    if on == b"off".as_slice() {
-        return Err(Cause::UnknownCommand);
-    }
-    let Some(var) = read_variable(word) else {
+    let Some(var) = read_variable(var) else {
         return Err(Cause::Words);
     };
-    if on == b"on".as_slice() {
-        Ok(Does::Root { var })
-    } else {
-        Err(Cause::Words)
-    }
+    let Some(on) = read_switch(on) else {
+        return Err(Cause::Words);
+    };
+    Ok(Does::Root { var, on })
 }
 
 // A command of one word.
@@ -151,20 +109,15 @@ fn alone<'a>(does: Does<'a>, rest: &[u8]) -> Result<Does<'a>, Cause>
     }
 }
 
-fn lane_command<'a>(
-    word: &[u8],
-    lane: &Number,
-    rest: &'a [u8],
-    after: &[u8],
-) -> Result<Does<'a>, Cause>
-    ensures { result ≡ lane_command word.now lane.now (line_words rest.now) (input_lines after.now) }
+fn lane_command<'a>(word: &[u8], rest: &'a [u8]) -> Result<Does<'a>, Cause>
+    ensures { result ≡ lane_command word.now (line_words rest.now) }
 {
     if word == b"open".as_slice() {
         alone(Does::Open, rest)
     } else if word == b"close".as_slice() {
         alone(Does::Close, rest)
     } else if word == b"new".as_slice() {
-        new_command(lane, rest, after)
+        new_command(rest)
     } else if word == b"root".as_slice() {
         root_command(rest)
     } else {
@@ -172,20 +125,20 @@ fn lane_command<'a>(
     }
 }
 
-fn lane_line<'a>(lane: Number, rest: &'a [u8], after: &[u8]) -> Result<Said<'a>, Cause>
-    ensures { result ≡ lane_line lane (line_words rest.now) (input_lines after.now) }
+fn lane_line<'a>(lane: Number, rest: &'a [u8]) -> Result<Said<'a>, Cause>
+    ensures { result ≡ lane_line lane (line_words rest.now) }
 {
     let Some((word, rest)) = first_word(rest) else {
         return Err(Cause::UnknownCommand);
     };
-    match lane_command(word, &lane, rest, after) {
+    match lane_command(word, rest) {
         Ok(does) => Ok(Said::Lane { lane, does }),
         Err(cause) => Err(cause),
     }
 }
 
-fn said_by_words<'a>(in_header: bool, line: &'a [u8], after: &[u8]) -> Result<Said<'a>, Cause>
-    ensures { result ≡ said_by_words in_header (line_words line.now) (input_lines after.now) }
+fn said_by_words<'a>(in_header: bool, line: &'a [u8]) -> Result<Said<'a>, Cause>
+    ensures { result ≡ said_by_words in_header (line_words line.now) }
 {
     let Some((word, rest)) = first_word(line) else {
         return Ok(Said::Nothing);
@@ -197,18 +150,18 @@ fn said_by_words<'a>(in_header: bool, line: &'a [u8], after: &[u8]) -> Result<Sa
     } else if word == b"gc".as_slice() {
         collector_line(rest)
     } else if is_digits(word) {
-        lane_line(read_number(word), rest, after)
+        lane_line(read_number(word), rest)
     } else {
         Err(Cause::UnknownCommand)
     }
 }
 
-/// What a line says, with the bytes after it, or the first cause that its words have.
-pub fn read_line<'a>(in_header: bool, line: &'a [u8], after: &[u8]) -> Result<Said<'a>, Cause>
-    ensures { result ≡ said_by_line in_header line.now (input_lines after.now) }
+/// What a line says, or the first cause that its words have.
+pub fn read_line<'a>(in_header: bool, line: &'a [u8]) -> Result<Said<'a>, Cause>
+    ensures { result ≡ said_by_line in_header line.now }
 {
     match str::from_utf8(line) {
-        Ok(_) => said_by_words(in_header, line, after),
+        Ok(_) => said_by_words(in_header, line),
         Err(_) => Err(Cause::Utf8),
     }
 }

@@ -1,6 +1,5 @@
 //! What the lines so far have made known, and what one more line adds.
 ghost use Rattle.std.specs.Prelude.{◌≡◌, IfOk, Ok};
-ghost use Rattle.level_script.specs.Lines.{input_lines};
 ghost use Rattle.level_script.specs.Context.{AreLawful, start, with_line, class_turn, lane_turn, act_turn, turn, Turns, script_from};
 
 use crate::cause::{Cause, Stop};
@@ -89,12 +88,11 @@ impl Context {
         }
     }
 
-    /// Takes the line with this number, before the bytes after it. After an error nothing is said
-    /// of the context.
-    pub fn read(&mut self, number: u32, line: &[u8], after: &[u8]) -> Result<(), Stop>
-        ensures { Turns (turn number self.old line.now (input_lines after.now)) self.new result }
+    /// Takes the line with this number. After an error nothing is said of the context.
+    pub fn read(&mut self, number: u32, line: &[u8]) -> Result<(), Stop>
+        ensures { Turns (turn number self.old line.now) self.new result }
     {
-        match read_line(self.in_header, line, after) {
+        match read_line(self.in_header, line) {
             Ok(said) => self.act(number, &said),
             Err(cause) => Err(Stop::Faulty(cause)),
         }

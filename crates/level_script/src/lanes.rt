@@ -89,8 +89,8 @@ impl LaneNames {
         }
     }
 
-    fn root(&mut self, var: &Identifier<'_>) -> Result<Cmd, Stop>
-        ensures { Steps (root_step self.old var.now) self.new result }
+    fn root(&mut self, var: &Identifier<'_>, on: bool) -> Result<Cmd, Stop>
+        ensures { Steps (root_step self.old var.now on) self.new result }
     {
         if !self.opened {
             return Err(Stop::Faulty(Cause::Frame));
@@ -98,7 +98,7 @@ impl LaneNames {
         let Some(var) = self.bound_var(var.as_str()) else {
             return Err(Stop::Faulty(Cause::UnknownName));
         };
-        Ok(Cmd::Root { var, on: true })
+        Ok(Cmd::Root { var, on })
     }
 
     // Does what a line of the lane says.
@@ -109,7 +109,7 @@ impl LaneNames {
             Does::Open => self.open(),
             Does::Close => self.close(),
             Does::New { var, class } => self.make(classes, var, class),
-            Does::Root { var } => self.root(var),
+            Does::Root { var, on } => self.root(var, *on),
         }
     }
 

@@ -5,8 +5,7 @@
 //! `Forms` has the words, `Commands` the lines, `Lanes` and `Context` what one more line adds to
 //! what the lines before it have made known, `Reading` whole inputs, and `Frames` what a player may
 //! rely on. So far there are the commands `class NAME PARENT`, `gc full`, and after a lane `open`,
-//! `close`, `new V CLASS` and `root V on`; a `new` has to be followed by the `root .. on` of its
-//! variable. Any other command is an unknown one.
+//! `close`, `new V CLASS`, `root V on` and `root V off`. Any other command is an unknown one.
 //!
 //! The layer above calls `parse`, which answers exactly the script, or exactly the first faulty line
 //! with its first cause, and gets from its contract that the script's lines can be played: each

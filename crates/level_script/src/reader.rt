@@ -24,16 +24,16 @@ fn bad(line: u32, cause: Cause) -> ParseErr
     ParseErr::Bad(ScriptErr { line, cause })
 }
 
-// Takes one line, before the bytes after it.
+// Takes one line.
 #[tactic(auto, unfolding(crate::specs::Reading::line_turn))]
-fn take_line(context: &mut Context, number: u32, line: &[u8], after: &[u8]) -> Result<(), ParseErr>
-    ensures turn { TurnsLine (line_turn number context.old line.now (input_lines after.now)) number context.new result }
+fn take_line(context: &mut Context, number: u32, line: &[u8]) -> Result<(), ParseErr>
+    ensures turn { TurnsLine (line_turn number context.old line.now) number context.new result }
     ensures within { OnOk result (number ≤ 200000) }
 {
     if number > LINES {
         return Err(bad(number, Cause::TooLong));
     }
-    match context.read(number, line, after) {
+    match context.read(number, line) {
         Ok(()) => Ok(()),
         Err(Stop::Faulty(cause)) => Err(bad(number, cause)),
         Err(Stop::Memory) => Err(ParseErr::Memory),
@@ -47,7 +47,7 @@ fn take_lines(context: &mut Context, bytes: &[u8]) -> Result<(), ParseErr>
     let mut rest = bytes;
     let mut number = 1;
     while let Some((line, after)) = first_line(rest) {
-        if let Err(error) = take_line(context, number, line, after) {
+        if let Err(error) = take_line(context, number, line) {
             return Err(error);
         }
         number += 1;

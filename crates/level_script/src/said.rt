@@ -31,5 +31,6 @@ pub enum Does<'a> {
     },
     Root {
         var: Identifier<'a>,
+        on: bool,
     },
 }

@@ -77,6 +77,27 @@ fn is_smallest(alloc: Global, text: &str) -> bool {
     }
 }
 
+fn lane_line(number: u32, lane: u32, cmd: Cmd) -> Line {
+    Line {
+        number,
+        who: Who::Lane(lane),
+        cmd,
+    }
+}
+
+// A line that makes an object of class `Object`.
+fn object_line(number: u32, lane: u32, var: u32) -> Line {
+    let class = ClassId(0);
+    lane_line(number, lane, Cmd::New { var, class })
+}
+
+fn is_script(alloc: Global, bytes: &[u8], lines: &[Line], vars: &[u32]) -> bool {
+    match read(alloc, bytes) {
+        Ok(script) => script.lines.as_slice() == lines && script.vars.as_slice() == vars,
+        Err(_) => false,
+    }
+}
+
 fn is_empty(alloc: Global, bytes: &[u8]) -> bool {
     match read(alloc, bytes) {
         Ok(script) => script.lines.as_slice().is_empty(),
@@ -95,6 +116,53 @@ fn the_smallest_script(rt: HostRuntime) {
     ] {
         assert!(rt; is_smallest(alloc, text));
     }
+}
+
+#[test]
+fn objects_without_roots(rt: HostRuntime) {
+    let alloc = rt.alloc();
+    let lines = [lane_line(1, 0, Cmd::Open), object_line(2, 0, 0)];
+    for text in [
+        "0 open\n0 new a Object",
+        "0 open\n0 new a Object\n",
+        "0 open\n0 new a Object\n# 0 root a on",
+    ] {
+        assert!(rt; is_script(alloc, text.as_bytes(), &lines, &[1, 0, 0, 0]));
+    }
+    let text =
+        "0 open\n1 open\n0 new a Object\n0 new b Object\n1 new b Object\n0 new a Object\n\n0 close\ngc full";
+    let lines = [
+        lane_line(1, 0, Cmd::Open),
+        lane_line(2, 1, Cmd::Open),
+        object_line(3, 0, 0),
+        object_line(4, 0, 1),
+        object_line(5, 1, 0),
+        object_line(6, 0, 0),
+        lane_line(8, 0, Cmd::Close),
+        Line {
+            number: 9,
+            who: Who::Gc,
+            cmd: Cmd::GcFull,
+        },
+    ];
+    assert!(rt; is_script(alloc, text.as_bytes(), &lines, &[2, 1, 0, 0]));
+}
+
+#[test]
+fn roots_on_and_off(rt: HostRuntime) {
+    let text =
+        "0 open\n0 new a Object\n0 root a off\n0 new b Object\n\n0 root a on\n00 root b on\n0\troot  a off\n0 root a on";
+    let lines = [
+        lane_line(1, 0, Cmd::Open),
+        object_line(2, 0, 0),
+        lane_line(3, 0, Cmd::Root { var: 0, on: false }),
+        object_line(4, 0, 1),
+        lane_line(6, 0, Cmd::Root { var: 0, on: true }),
+        lane_line(7, 0, Cmd::Root { var: 1, on: true }),
+        lane_line(8, 0, Cmd::Root { var: 0, on: false }),
+        lane_line(9, 0, Cmd::Root { var: 0, on: true }),
+    ];
+    assert!(rt; is_script(rt.alloc(), text.as_bytes(), &lines, &[2, 0, 0, 0]));
 }
 
 #[test]
@@ -119,13 +187,8 @@ fn unknown_commands(rt: HostRuntime) {
         ("0 open\nclass A Object", 2),
         ("0 open\nclass A", 2),
         ("0 open\n0 set a.f b", 2),
-        ("0 root a off", 1),
-        ("9 root a off", 1),
-        ("0 open\n0 new a Object", 2),
-        ("0 open\n0 new a Object\n\n0 root a on", 2),
-        ("0 open\n0 new a Object\n1 root a on", 2),
-        ("0 open\n0 new a Object\n0 root b on", 2),
-        ("9 new a B", 1),
+        ("0 off a", 1),
+        ("9 roots a on", 1),
     ];
     assert!(rt; other(rt.alloc(), &inputs, Cause::UnknownCommand).is_none());
 }
@@ -144,10 +207,23 @@ fn faults_of_words(rt: HostRuntime) {
         ("0 open x", 1),
         ("9 close x", 1),
         ("gc full 1", 1),
+        ("0 new", 1),
         ("0 new a", 1),
-        ("0 new none Object\n0 root none on", 1),
+        ("0 new a Object x", 1),
+        ("0 new none Object", 1),
+        ("0 new a 1A", 1),
+        ("9 new 1a Object", 1),
+        ("0 root", 1),
+        ("0 root a", 1),
+        ("0 root on", 1),
+        ("0 root a of", 1),
+        ("0 root a On", 1),
         ("0 root a maybe", 1),
+        ("0 root a off x", 1),
         ("0 root none on", 1),
+        ("0 root none off", 1),
+        ("9 root a- off", 1),
+        ("0 open\n0 new a Object\n0 root a of", 3),
     ];
     assert!(rt; other(rt.alloc(), &inputs, Cause::Words).is_none());
 }
@@ -159,7 +235,9 @@ fn faults_of_numbers_frames_and_names(rt: HostRuntime) {
         ("4 open", 1),
         ("18446744073709551616 open", 1),
         ("000000000000000000000 open", 1),
-        ("0 open\n4 new a B\n4 root a on", 2),
+        ("0 open\n4 new a B", 2),
+        ("9 root a on", 1),
+        ("9 root a off", 1),
     ];
     assert!(rt; other(alloc, &numbers, Cause::Number).is_none());
     let frames = [
@@ -167,13 +245,21 @@ fn faults_of_numbers_frames_and_names(rt: HostRuntime) {
         ("00000000000000000000 open\n0 open", 2),
         ("0 close", 1),
         ("0 open\n1 close", 2),
+        ("0 new a B", 1),
         ("0 root a on", 1),
-        ("0 new a B\n0 root a on", 1),
+        ("0 root a off", 1),
+        ("0 open\n0 new a Object\n1 root a on", 3),
+        ("0 open\n0 new a Object\n0 close\n0 root a off", 4),
     ];
     assert!(rt; other(alloc, &frames, Cause::Frame).is_none());
     let names = [
         ("0 open\n0 root a on", 2),
+        ("0 open\n0 root a off", 2),
         ("0 open\n0 new a B\n0 root a on", 2),
+        ("0 open\n0 new a none", 2),
+        ("0 open\n0 new a Object\n0 root b on", 3),
+        ("0 open\n0 new a Object\n0 close\n0 open\n0 root a off", 5),
+        ("0 open\n1 open\n0 new a Object\n1 root a off", 4),
         (
             "0 open\n0 new a Object\n0 root a on\n0 close\n0 open\n0 root a on",
             6,
@@ -217,4 +303,19 @@ fn inputs_that_are_too_long(rt: HostRuntime) {
     let long = vec![in alloc; b' '; 16_777_217].expect(&rt, "memory");
     assert!(rt; is_fault(alloc, &long, 0, Cause::TooLong));
     assert!(rt; is_empty(alloc, &long[1..]));
+}
+
+#[test]
+fn a_new_in_the_last_line(rt: HostRuntime) {
+    let alloc = rt.alloc();
+    let mut bytes = vec![in alloc; b'\n'; 199_998].expect(&rt, "memory");
+    bytes
+        .extend_from_slice("0 open\n0 new a Object".as_bytes())
+        .expect(&rt, "memory");
+    let lines = [lane_line(199_999, 0, Cmd::Open), object_line(200_000, 0, 0)];
+    assert!(rt; is_script(alloc, &bytes, &lines, &[1, 0, 0, 0]));
+    bytes
+        .extend_from_slice("\n0 root a on".as_bytes())
+        .expect(&rt, "memory");
+    assert!(rt; is_fault(alloc, &bytes, 200_001, Cause::TooLong));
 }

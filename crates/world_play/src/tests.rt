@@ -163,6 +163,20 @@ fn a_lane_that_is_full(rt: HostRuntime) {
 }
 
 #[test]
+fn what_no_root_reaches(rt: HostRuntime) {
+    let script =
+        "class A Object\n0 open\n0 new a A\n0 new b A\n0 root b on\n0 close\ngc full\n0 open\n0 new a A\n";
+    let text =
+        "0 open idle\n0 new 0:1\n0 new 0:2\n0 was off\n0 close\ngc full removed 1 left 1: 0:1\n0 open idle\n0 new 0:3\n";
+    assert!(rt; plays(&rt, rt.alloc(), script, 7, Status::Ok, text, 8));
+    let script =
+        "0 open\n0 new a Object\n0 root a on\n0 root a off\n0 new a Object\n0 root a off\n1 open\n1 new a Object\n0 close\n1 close\ngc full\ngc full\n";
+    let text =
+        "0 open idle\n0 new 0:1\n0 was off\n0 was on\n0 new 0:2\n0 was off\n1 open idle\n1 new 1:1\n0 close\n1 close\ngc full removed 3 left 3: 0:1 0:2 1:1\ngc purging 3\n";
+    assert!(rt; plays(&rt, rt.alloc(), script, 7, Status::Ok, text, 12));
+}
+
+#[test]
 fn inputs_that_are_no_scripts(rt: HostRuntime) {
     let parent = Cause::Schema(SchemaErr::NoParent);
     assert!(rt;
@@ -179,7 +193,7 @@ fn inputs_that_are_no_scripts(rt: HostRuntime) {
         is_fault(
             &rt,
             rt.alloc(),
-            "0 open\n0 new a Object\n0 close\n",
+            "0 open\n0 now a Object\n0 close\n",
             2,
             Cause::UnknownCommand
         )
