@@ -29,7 +29,7 @@ use Rattle.heap_plain.specs.Plain.{Shows, IsPlain}
 use Rattle.heap_plain.proofs.WorldFacts.{in_world_of, unit_of_is, among_test, among_right}
 use Rattle.heap_plain.proofs.Fillings.{from_start}
 use Rattle.heap_plain.proofs.Entries.{plain_more, holds_more}
-use Rattle.heap_plain.proofs.Standing.{member_at, unique_place, bit_below, name_below}
+use Rattle.heap_plain.proofs.Standing.{member_at, bit_below, name_below}
 use Rattle.heap_plain.proofs.MarkSteps.{mark_one}
 use Rattle.heap_plain.proofs.Noting.{length-all_set}
 use Rattle.heap_plain.proofs.Quiet.{quiet_shows}
@@ -108,12 +108,12 @@ can_below firsts roots bits count limit (y ∷ xs) f h x (inl e) = subst (λ (k 
 can_below firsts roots bits count limit (y ∷ xs) f h x (inr a) = can_below firsts roots (set bits y true) count limit xs f h.2 x a
 
 -- what the notes of these units do from a state on
-pub record KeepRun (z : Sizes) (names : List (Option Name)) (firsts sizes : List ℕ) (lives : List Life) (marked : List Bool) (listed grey : List ℕ) (s : State) (of : List Name) : Type 0 where
+pub record KeepRun (z : Sizes) (names : List (Option Name)) (firsts sizes links : List ℕ) (lives : List Life) (marked : List Bool) (listed grey : List ℕ) (s : State) (of : List Name) : Type 0 where
   pub legal : LegalFrom z s (by Collector (map act.Kept of))
   pub world : (run s (by Collector (map act.Kept of))).world ≡ s.world
   pub frames : (run s (by Collector (map act.Kept of))).frames ≡ s.frames
   pub agreed : (run s (by Collector (map act.Kept of))).collector.agreed ≡ None
-  pub marks : MarksShow names firsts sizes lives s.world.units marked listed grey (run s (by Collector (map act.Kept of))).marks.kept (run s (by Collector (map act.Kept of))).marks.fresh (run s (by Collector (map act.Kept of))).marks.scanned
+  pub marks : MarksShow names firsts sizes links lives s.world.units marked listed grey (run s (by Collector (map act.Kept of))).marks.kept (run s (by Collector (map act.Kept of))).marks.fresh (run s (by Collector (map act.Kept of))).marks.scanned
   pub roots : AllByRecursion (λ n. IsRootUnit (graph s.world) (unit_of s.world n)) of
 
 -- the object behind a root bit
@@ -129,15 +129,15 @@ root_at {names} {lives} {roots} {rooted} ns rs i e = go (name_at names i) refl
     go (Some n) at =
         let is : rooted n ≡ true = sym (ap (rooted_at rooted) at) ∙ bit in
         let j = rs.living n is in
-        let same : j.0 ≡ i = unique_place ns j.0 i n j.1.name at in
+        let same : j.0 ≡ i = ns.alone j.0 i n j.1.name at in
         (n, subst (λ (k : ℕ). LivesAt names lives k n) same j.1, is)
 
-pub keep_run : (z : Sizes) (names : List (Option Name)) (firsts sizes : List ℕ) (lives : List Life) (made : List ℕ) (roots : List Bool) (s : State) (earlier : List World) (marked : List Bool) (listed grey heads : List ℕ) (count : ℕ)
-    → AreApart s.world.kinds s.world.units → NamesShow z names made s.world.kinds → UnitsShow z names firsts sizes lives s.world.units → RootsShow z names lives roots s.world.rooted s.world.cell s.world.strong
+pub keep_run : (z : Sizes) (names : List (Option Name)) (firsts sizes links : List ℕ) (lives : List Life) (made : List ℕ) (roots : List Bool) (s : State) (earlier : List World) (marked : List Bool) (listed grey heads : List ℕ) (count : ℕ)
+    → AreApart s.world.kinds s.world.units → NamesShow z names made s.world.kinds → UnitsShow z names firsts sizes links lives s.world.units → RootsShow z names lives roots s.world.rooted s.world.cell s.world.strong
     → s.world.phase ≡ Marking → s.collector.started ≡ true → s.collector.agreed ≡ None → s.marks.moments ≡ s.world ∷ earlier → length marked ≡ item_count z
-    → MarksShow names firsts sizes lives s.world.units marked listed grey s.marks.kept s.marks.fresh s.marks.scanned → CanKeep firsts roots count marked heads
-    → KeepRun z names firsts sizes lives (all_set marked heads) (listed ++ heads) (grey ++ heads) s (names_at names heads)
-keep_run z names firsts sizes lives made roots s earlier marked listed grey [] count apart ns us rs marking started agreed moments len marks can = record {
+    → MarksShow names firsts sizes links lives s.world.units marked listed grey s.marks.kept s.marks.fresh s.marks.scanned → CanKeep firsts roots count marked heads
+    → KeepRun z names firsts sizes links lives (all_set marked heads) (listed ++ heads) (grey ++ heads) s (names_at names heads)
+keep_run z names firsts sizes links lives made roots s earlier marked listed grey [] count apart ns us rs marking started agreed moments len marks can = record {
   legal = tt;
   world = refl;
   frames = refl;
@@ -145,12 +145,12 @@ keep_run z names firsts sizes lives made roots s earlier marked listed grey [] c
   marks = rw (append-nil listed, append-nil grey) marks;
   roots = tt;
 }
-keep_run z names firsts sizes lives made roots s earlier marked listed grey (head ∷ heads) count apart ns us rs marking started agreed moments len marks can =
+keep_run z names firsts sizes links lives made roots s earlier marked listed grey (head ∷ heads) count apart ns us rs marking started agreed moments len marks can =
     let r = can.0 in
     let root = root_at ns rs r.0 r.2 in
     let unit = us.each r.0 root.1.life in
     let u = unit.0 in
-    let stands : StandsAt names firsts sizes lives s.world.units head u = subst (λ (x : ℕ). StandsAt names firsts sizes lives s.world.units x u) r.3 unit.1 in
+    let stands : StandsAt names firsts sizes links lives s.world.units head u = subst (λ (x : ℕ). StandsAt names firsts sizes links lives s.world.units x u) r.3 unit.1 in
     let member = member_at us head u stands in
     let n = member.0 in
     let entry : Entry = record { pass = Collector; act = act.Kept n } in
@@ -158,7 +158,7 @@ keep_run z names firsts sizes lives made roots s earlier marked listed grey (hea
     let unit_is : unit_of s.world n ≡ u = unit_of_is s.world.kinds s.world.units u n apart stands.among member.2 in
     let has_root : has u root.0 ≡ true = stands.whole r.0 root.0 root.1 r.3 in
     let is_root : IsRootUnit (graph s.world) (unit_of s.world n) = subst (λ (v : List Name). IsRootUnit (graph s.world) v) (sym unit_is) (root.0, has_root, inl root.2) in
-    let rest = keep_run z names firsts sizes lives made roots (next s entry) s.marks.moments (set marked head true) (listed ++ head ∷ []) (grey ++ head ∷ []) heads count apart ns us rs marking started refl refl
+    let rest = keep_run z names firsts sizes links lives made roots (next s entry) s.marks.moments (set marked head true) (listed ++ head ∷ []) (grey ++ head ∷ []) heads count apart ns us rs marking started refl refl
     (length-set marked head true ∙ len) (mark_one ns us apart head u n stands member.2 can.1 inside marks) can.2 in
     let may : MayBy z s Collector (act.Kept n) = record {
       finishes = agreed;
@@ -168,7 +168,7 @@ keep_run z names firsts sizes lives made roots s earlier marked listed grey (hea
         root = subst (λ (ms : List World). AtSomeMoment ms (λ w. IsRootUnit (graph w) (unit_of s.world n))) (sym moments) (inl is_root);
       };
     } in
-    let whole : KeepRun z names firsts sizes lives (all_set marked (head ∷ heads)) ((listed ++ head ∷ []) ++ heads) ((grey ++ head ∷ []) ++ heads) s (n ∷ names_at names heads) = record {
+    let whole : KeepRun z names firsts sizes links lives (all_set marked (head ∷ heads)) ((listed ++ head ∷ []) ++ heads) ((grey ++ head ∷ []) ++ heads) s (n ∷ names_at names heads) = record {
       legal = (may, rest.legal);
       world = rest.world;
       frames = rest.frames;
@@ -176,9 +176,9 @@ keep_run z names firsts sizes lives made roots s earlier marked listed grey (hea
       marks = rest.marks;
       roots = (is_root, rest.roots);
     } in
-    subst (λ (o : Option Name). KeepRun z names firsts sizes lives (all_set marked (head ∷ heads)) (listed ++ head ∷ heads) (grey ++ head ∷ heads) s (option_to_list o ++ names_at names heads)) (sym member.1.name)
-    (subst (λ (xs : List ℕ). KeepRun z names firsts sizes lives (all_set marked (head ∷ heads)) xs (grey ++ head ∷ heads) s (n ∷ names_at names heads)) (append_assoc listed (head ∷ []) heads)
-    (subst (λ (xs : List ℕ). KeepRun z names firsts sizes lives (all_set marked (head ∷ heads)) ((listed ++ head ∷ []) ++ heads) xs s (n ∷ names_at names heads)) (append_assoc grey (head ∷ []) heads) whole))
+    subst (λ (o : Option Name). KeepRun z names firsts sizes links lives (all_set marked (head ∷ heads)) (listed ++ head ∷ heads) (grey ++ head ∷ heads) s (option_to_list o ++ names_at names heads)) (sym member.1.name)
+    (subst (λ (xs : List ℕ). KeepRun z names firsts sizes links lives (all_set marked (head ∷ heads)) xs (grey ++ head ∷ heads) s (n ∷ names_at names heads)) (append_assoc listed (head ∷ []) heads)
+    (subst (λ (xs : List ℕ). KeepRun z names firsts sizes links lives (all_set marked (head ∷ heads)) ((listed ++ head ∷ []) ++ heads) xs s (n ∷ names_at names heads)) (append_assoc grey (head ∷ []) heads) whole))
 
 -- ---- a collection starts
 
@@ -191,8 +191,8 @@ none_has [] e = cc
 none_has (n ∷ u) e = none_has u e
 
 -- nothing is marked
-unmarked : (names : List (Option Name)) (firsts sizes : List ℕ) (lives : List Life) (units : List (List Name)) (marked : List Bool) → ((i : ℕ) → get_or marked i false ≡ false) → MarksShow names firsts sizes lives units marked [] [] [] [] []
-unmarked names firsts sizes lives units marked clear = record {
+unmarked : (names : List (Option Name)) (firsts sizes links : List ℕ) (lives : List Life) (units : List (List Name)) (marked : List Bool) → ((i : ℕ) → get_or marked i false ≡ false) → MarksShow names firsts sizes links lives units marked [] [] [] [] []
+unmarked names firsts sizes links lives units marked clear = record {
   bits = λ head u t. clear head ∙ sym (none_any u);
   listed_marked = λ head a. absurd a;
   distinct = tt;
@@ -231,9 +231,9 @@ module _ (z : Sizes) (p : Parts) (h new : List Entry) (cleared marked : List Boo
   removals_none : (after h).removals ≡ []
   removals_none = none_of_none _ (sym (left_idle _ _ _ _ s.removed.left_is (sym s.phase ∙ idle)) ∙ none_left)
 
-  ran : KeepRun z p.names p.firsts p.sizes p.lives (all_set cleared heads) heads heads s1 of
-  ran = keep_run z p.names p.firsts p.sizes p.lives p.made p.roots s1 [] cleared [] [] heads (length p.roots) (units_apart z h was.legal) s.names s.units s.roots refl refl refl refl (clear.len ∙ s.work.marked_len)
-      (unmarked p.names p.firsts p.sizes p.lives (after h).units cleared all_clear) keeps.can
+  ran : KeepRun z p.names p.firsts p.sizes p.next p.lives (all_set cleared heads) heads heads s1 of
+  ran = keep_run z p.names p.firsts p.sizes p.next p.lives p.made p.roots s1 [] cleared [] [] heads (length p.roots) (units_apart z h was.legal) s.names s.units s.roots refl refl refl refl (clear.len ∙ s.work.marked_len)
+      (unmarked p.names p.firsts p.sizes p.next p.lives (after h).units cleared all_clear) keeps.can
 
   may_start : MayBy z (state_of h) Collector (act.BeginGc begin.Started)
   may_start = record { finishes = s.none_agreed; may = (record { idle = sym s.phase ∙ idle; released = removals_none }, none_of_none _ (sym s.frames.count ∙ open_none)) }
@@ -281,10 +281,10 @@ module _ (z : Sizes) (p : Parts) (h new : List Entry) (cleared marked : List Boo
           omega arith;
     };
     idle = λ ne. absurd (ne refl);
-    marks = λ e. subst (λ (bits : List Bool). MarksShow p.names p.firsts p.sizes p.lives (after h).units bits heads heads end.marks.kept end.marks.fresh end.marks.scanned) (sym keeps.bits) ran.marks;
+    marks = λ e. subst (λ (bits : List Bool). MarksShow p.names p.firsts p.sizes p.next p.lives (after h).units bits heads heads end.marks.kept end.marks.fresh end.marks.scanned) (sym keeps.bits) ran.marks;
     roots_marked = λ e i r. keeps.each i (bit_below p.roots i r) r;
     removed = removed_marking _ _ _ _ _ removals_none (left_idle _ _ _ _ s.removed.left_is (sym s.phase ∙ idle)) s.removed;
-    room = s.room;
+    free = s.free;
     none_agreed = ran.agreed;
   }
 

@@ -1,5 +1,5 @@
 -- An empty world.
-use Rattle.std.proofs.Common.{◌≡◌, ◌≢◌, ℕ, ◌<◌, ◌≤◌, false, [], get_or, replicate, refl, sym, ap, ◌∙◌, arith, Option, Some, None}
+use Rattle.std.proofs.Common.{◌≡◌, ◌≢◌, ℕ, ◌+◌, ◌-◌, ◌*◌, ◌<◌, ◌≤◌, false, [], get_or, replicate, refl, sym, subst, ap, ◌∙◌, arith, Option, Some, None}
 use Rattle.std.proofs.Math.Nat.{mul-le-mul}
 use Rattle.std.proofs.Math.Logic.{dite}
 use Rattle.std.proofs.Math.Decide.{dec_le}
@@ -10,23 +10,28 @@ use Rattle.world_model.specs.Sizes.{Sizes, IsLawful, item_count}
 use Rattle.heap_plain.specs.Types.{Name, Idle}
 use Rattle.heap_plain.specs.declared.life.Life.TheVariants.{Free, Live}
 use Rattle.heap_plain.specs.Parts.{Parts, Lists, name_at, life_at}
-use Rattle.heap_plain.specs.Sections.{rooted_at}
+use Rattle.heap_plain.specs.Stacks.{full_stacks}
+use Rattle.heap_plain.specs.Sections.{rooted_at, FreeShows, free_at, spare_at}
 use Rattle.heap_plain.specs.Plain.{IsPlain}
+use Rattle.heap_plain.proofs.Stacking.{length-full_stacks, get_or-full_stacks}
 
 -- the vectors of a new heap
-abbrev pub new_parts : Sizes → Parts
-new_parts z = record {
-  names = replicate (item_count z) None;
-  firsts = replicate (item_count z) 0;
-  sizes = replicate (item_count z) 0;
-  lives = replicate (item_count z) Free;
-  roots = replicate (item_count z) false;
-  marked = replicate (item_count z) false;
-  work = replicate (item_count z) 0;
+abbrev pub new_parts : ℕ → ℕ → Parts
+new_parts lanes quota = record {
+  names = replicate (lanes * quota) None;
+  firsts = replicate (lanes * quota) 0;
+  sizes = replicate (lanes * quota) 0;
+  next = replicate (lanes * quota) 0;
+  lives = replicate (lanes * quota) Free;
+  roots = replicate (lanes * quota) false;
+  marked = replicate (lanes * quota) false;
+  work = replicate (lanes * quota) 0;
   scanned = 0;
   pushed = 0;
-  made = replicate z.lanes 0;
-  frames = replicate z.lanes false;
+  free = full_stacks quota lanes;
+  spare = replicate lanes quota;
+  made = replicate lanes 0;
+  frames = replicate lanes false;
   phase = Idle;
   left = 0;
   swept = 0;
@@ -53,7 +58,33 @@ none_used n i ne = ne (same_everywhere n i Free)
 some_items : (z : Sizes) → IsLawful z → 0 < item_count z
 some_items z lawful = omega (arith, mul-le-mul lawful.some_lanes lawful.some_quota)
 
-pub begins : (z : Sizes) → IsLawful z → IsPlain z (new_parts z) []
+spare_all : (z : Sizes) (lane : ℕ) → lane < z.lanes → spare_at (replicate z.lanes z.quota) lane ≡ z.quota
+spare_all z lane h = get_or-replicate z.lanes lane z.quota 0 h
+
+-- all indexes are free
+all_free : (z : Sizes) → FreeShows z (replicate (item_count z) None) (replicate (item_count z) Free) (full_stacks z.quota z.lanes) (replicate z.lanes z.quota) [] []
+all_free z = record {
+  free_len = length-full_stacks z.quota z.lanes;
+  spare_len = length-replicate _ _;
+  of_lane = λ lane k h b. let t = place lane k h b in let less = below lane k h b in record { low = omega arith; high = omega arith };
+  unused = λ lane k h b. same_everywhere (item_count z) _ Free;
+  once = λ lane j k h a b e. let t = place lane j h a in let u = place lane k h b in let x = below lane j h a in let y = below lane k h b in omega arith;
+  all = λ lane i h o e.
+      let k : ℕ = z.quota - 1 - (i - lane * z.quota) in
+      let less : k < z.quota = omega (arith, o.low, o.high) in
+      let some : k < spare_at (replicate z.lanes z.quota) lane = omega (arith, spare_all z lane h) in
+      (k, some, place lane k h some ∙ omega (arith, o.low, o.high));
+  nameless = λ i e. same_everywhere (item_count z) i None;
+  count = λ lane h. let t = spare_all z lane h in omega arith;
+}
+  where
+    below : (lane k : ℕ) → lane < z.lanes → k < spare_at (replicate z.lanes z.quota) lane → k < z.quota
+    below lane k h b = omega (arith, spare_all z lane h)
+
+    place : (lane k : ℕ) → lane < z.lanes → k < spare_at (replicate z.lanes z.quota) lane → free_at z (full_stacks z.quota z.lanes) lane k ≡ lane * z.quota + (z.quota - 1 - k)
+    place lane k h b = get_or-full_stacks z.quota z.lanes lane k 0 h (below lane k h b)
+
+begins : (z : Sizes) → IsLawful z → IsPlain z (new_parts z.lanes z.quota) []
 begins z lawful = record {
   legal = tt;
   shows = record {
@@ -63,12 +94,13 @@ begins z lawful = record {
       counts = all_same z.lanes 0;
       items = length-replicate _ _;
       places = λ i n e. absurd (no_name _ i n e);
+      alone = λ i j n e. absurd (no_name _ i n e);
       few_names = λ lane h. omega arith;
-      few_items = λ lane h. omega arith;
     };
     units = record {
       firsts_len = length-replicate _ _;
       sizes_len = length-replicate _ _;
+      links_len = length-replicate _ _;
       lives_len = length-replicate _ _;
       in_range = λ i. rw (same_everywhere {A = ℕ} (item_count z) i 0) (some_items z lawful);
       small = λ i. rw (same_everywhere {A = ℕ} (item_count z) i 0) (omega arith);
@@ -101,7 +133,11 @@ begins z lawful = record {
       left_few = λ e. omega arith;
       none_left = λ e. refl;
     };
-    room = λ lane. refl;
+    free = all_free z;
     none_agreed = refl;
   };
 }
+
+-- the vectors that are made by the numbers of a shape
+pub begins_as : (z : Sizes) (lanes quota : ℕ) (p : Parts) → IsLawful z → lanes ≡ z.lanes → quota ≡ z.quota → new_parts lanes quota ≡ p → IsPlain z p []
+begins_as z lanes quota p lawful by_lanes by_quota made = subst (λ (q : Parts). IsPlain z q []) made (rw (by_lanes, by_quota) (begins z lawful))

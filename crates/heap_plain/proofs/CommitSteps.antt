@@ -1,5 +1,5 @@
 -- Committing a collection.
-use Rattle.std.proofs.Common.{◌≡◌, ◌≢◌, ℕ, ◌-◌, ◌<◌, ◌≤◌, ◌==◌, ◌&&◌, not, refl, sym, subst, ap, ◌∙◌, inl, inr, arith, Bool, cond, true, false, List, [], ◌∷◌, ◌++◌, length, get_or, map, take, filter, count_by, count_ones, Option, Some, None}
+use Rattle.std.proofs.Common.{◌≡◌, ◌≢◌, ℕ, ◌+◌, ◌-◌, ◌<◌, ◌≤◌, ◌==◌, ◌&&◌, not, refl, sym, subst, ap, ◌∙◌, inl, inr, arith, Bool, cond, true, false, List, [], ◌∷◌, ◌++◌, length, get_or, map, take, filter, count_by, count_ones, Option, Some, None}
 use Rattle.std.specs.List.{sum_by}
 use Rattle.std.proofs.Math.Logic.{dite}
 use Rattle.std.proofs.Math.Decide.{dec_le}
@@ -24,7 +24,7 @@ use Rattle.heap_plain.specs.declared.life.Life.TheVariants.{Free, Live, Removed}
 use Rattle.heap_plain.specs.Parts.{Parts, Holds, name_at, life_at, first_at}
 use Rattle.heap_plain.specs.Notes.{MayEnd, is_done}
 use Rattle.heap_plain.specs.Sweeping.{without, Removes}
-use Rattle.heap_plain.specs.Sections.{Distinct, UnitsShow, StandsAt, LivesAt, RootsShow, rooted_at, HeldShow, RemovedShow, removal_of, RoomShows, grey_of}
+use Rattle.heap_plain.specs.Sections.{Distinct, UnitsShow, StandsAt, LivesAt, RootsShow, rooted_at, HeldShow, RemovedShow, removal_of, FreeShows, free_at, spare_at, grey_of}
 use Rattle.heap_plain.specs.Plain.{Shows, IsPlain}
 use Rattle.heap_plain.proofs.WorldFacts.{has_among, among_left, among_right}
 use Rattle.heap_plain.proofs.Fillings.{Lists-same}
@@ -188,7 +188,7 @@ module _ (z : Sizes) (p : Parts) (h : List Entry) (lives : List Life) (was : IsP
   bit i = get_or p.marked (first_at p.firsts i) false
 
   abbrev Stands : ℕ → List Name → Type 0
-  Stands head u = StandsAt p.names p.firsts p.sizes p.lives w.units head u
+  Stands head u = StandsAt p.names p.firsts p.sizes p.next p.lives w.units head u
 
   opened_none : w.opened ≡ []
   opened_none = none_of_none _ (sym s.frames.count ∙ open_none)
@@ -256,20 +256,22 @@ module _ (z : Sizes) (p : Parts) (h : List Entry) (lives : List Life) (was : IsP
   member_bit : (head : ℕ) (u : List Name) → Stands head u → (i : ℕ) → first_at p.firsts i ≡ head → bit i ≡ is_marked m u
   member_bit head u t i f = ap (λ (x : ℕ). get_or p.marked x false) f ∙ (s.marks marking).bits head u t
 
-  stands_kept : (head : ℕ) (u : List Name) → Stands head u → is_marked m u ≡ true → StandsAt p.names p.firsts p.sizes lives kept head u
+  stands_kept : (head : ℕ) (u : List Name) → Stands head u → is_marked m u ≡ true → StandsAt p.names p.firsts p.sizes p.next lives kept head u
   stands_kept head u t e = record {
     among = filter_among (is_marked m) w.units u t.among e;
     life = stays_live head t.life (member_bit head u t head t.own ∙ e);
     own = t.own;
     size = t.size;
+    linked = t.linked;
     inside = λ n is. let j = t.inside n is in (j.0, record { name = j.1.name; life = stays_live j.0 j.1.life (member_bit head u t j.0 j.2 ∙ e) }, j.2);
     whole = λ i n a f. t.whole i n (record { name = a.name; life = (was_live i a.life).0 }) f;
   }
 
-  units_kept : UnitsShow z p.names p.firsts p.sizes lives kept
+  units_kept : UnitsShow z p.names p.firsts p.sizes p.next lives kept
   units_kept = record {
     firsts_len = s.units.firsts_len;
     sizes_len = s.units.sizes_len;
+    links_len = s.units.links_len;
     lives_len = removes.len ∙ s.units.lives_len;
     in_range = s.units.in_range;
     small = s.units.small;
@@ -326,7 +328,7 @@ module _ (z : Sizes) (p : Parts) (h : List Entry) (lives : List Life) (was : IsP
     no_strong = s.roots.no_strong;
   }
 
-  -- ---- frames, removed objects, room
+  -- ---- frames, removed objects, free indexes
 
   held_none : (lane : ℕ) → ((state_of h).frames lane).held ≡ []
   held_none lane = s.held.closed lane (rw opened_none refl)
@@ -358,16 +360,41 @@ module _ (z : Sizes) (p : Parts) (h : List Entry) (lives : List Life) (was : IsP
     none_left = λ e. absurd cc;
   }
 
-  room_kept : RoomShows w.kinds kept (map removal_of (members white))
-  room_kept lane =
-      let before = s.room lane in
-      let none : count_by (λ r. r.name.lane == lane) w.removals ≡ 0 = ap (λ (rs : List Removal). count_by (λ r. r.name.lane == lane) rs) (s.removed.none_left (sym s.phase ∙ marking)) in
-      let all = count_members (λ n. n.lane == lane) w.units in
-      let stay = count_members (λ n. n.lane == lane) kept in
-      let go = count_members (λ n. n.lane == lane) white in
-      let both = sum_by-filter_both (is_marked m) (λ u. not (is_marked m u)) (λ u. refl) (λ u. count_by (λ n. n.lane == lane) u) w.units in
-      let back = count_removals lane (members white) in
-      omega arith
+  -- what was free is free, and what is free was
+  stays_free : (i : ℕ) → life_at p.lives i ≡ Free → life_at lives i ≡ Free
+  stays_free i e = life_is i ∙ ap (λ (x : Life). without x (bit i)) e
+
+  was_free : (i : ℕ) → life_at lives i ≡ Free → life_at p.lives i ≡ Free
+  was_free i e = go (life_at p.lives i) (bit i) refl (sym (life_is i) ∙ e)
+    where
+      go : (x : Life) (b : Bool) → life_at p.lives i ≡ x → without x b ≡ Free → life_at p.lives i ≡ Free
+      go Free b is e = is
+      go Live true is e = absurd cc
+      go Live false is e = absurd cc
+      go Removed b is e = absurd cc
+
+  free_kept : FreeShows z p.names lives p.free p.spare kept (map removal_of (members white))
+  free_kept = record {
+    free_len = s.free.free_len;
+    spare_len = s.free.spare_len;
+    of_lane = s.free.of_lane;
+    unused = λ lane k b lt. stays_free (free_at z p.free lane k) (s.free.unused lane k b lt);
+    once = s.free.once;
+    all = λ lane i b o e. s.free.all lane i b o (was_free i e);
+    nameless = λ i e. s.free.nameless i (was_free i e);
+    count = count;
+  }
+    where
+      count : (lane : ℕ) → lane < z.lanes → spare_at p.spare lane + (count_by (λ n. n.lane == lane) (members kept) + count_by (λ r. r.name.lane == lane) (map removal_of (members white))) ≡ z.quota
+      count lane b =
+          let before = s.free.count lane b in
+          let none : count_by (λ r. r.name.lane == lane) w.removals ≡ 0 = ap (λ (rs : List Removal). count_by (λ r. r.name.lane == lane) rs) (s.removed.none_left (sym s.phase ∙ marking)) in
+          let all = count_members (λ n. n.lane == lane) w.units in
+          let stay = count_members (λ n. n.lane == lane) kept in
+          let go = count_members (λ n. n.lane == lane) white in
+          let both = sum_by-filter_both (is_marked m) (λ u. not (is_marked m u)) (λ u. refl) (λ u. count_by (λ n. n.lane == lane) u) w.units in
+          let back = count_removals lane (members white) in
+          omega arith
 
   abbrev done_entry : Entry
   done_entry = record { pass = Collector; act = act.CommitGc commit.Done }
@@ -392,7 +419,7 @@ module _ (z : Sizes) (p : Parts) (h : List Entry) (lives : List Life) (was : IsP
     marks = λ e. absurd cc;
     roots_marked = λ e. absurd cc;
     removed = removed_kept;
-    room = room_kept;
+    free = free_kept;
     none_agreed = refl;
   }
 

@@ -1,11 +1,11 @@
--- Ranges of a list that are written, one place after the other.
+-- Places of a list that are written, one after the other.
 use Rattle.std.proofs.Common.{◌≡◌, ◌≢◌, ℕ, ◌+◌, ◌<◌, ◌≤◌, ◌⊎◌, inl, inr, ◌-◌, zero, suc, List, [], ◌∷◌, length, get_or, drop, refl, sym, ap, ◌∙◌, subst, arith}
 use Rattle.std.proofs.Math.ListN.{set}
 use Rattle.std.proofs.Math.Seq.{drop-nil}
 use Rattle.std.proofs.Math.Logic.{dite}
 use Rattle.std.proofs.Math.Decide.{ℕ_discrete}
 use Rattle.std.proofs.lemmas.List.{length-set, get_or-set_same, get_or-set_other}
-use Rattle.heap_plain.specs.Filling.{Filled}
+use Rattle.heap_plain.specs.Filling.{Filled, FilledAt}
 use Rattle.heap_plain.specs.Parts.{Lists}
 
 -- nothing is written yet
@@ -33,6 +33,19 @@ Filled-more old new from k at f v was here below same = record {
 -- places from the start on
 pub from_start : {A : Type 0} {old new : List A} {count : ℕ} {f : ℕ → A} → Filled old new 0 count f → (k : ℕ) (d : A) → k < count → get_or new k d ≡ f k
 from_start {new} {f} h k d below = let none : 0 + k ≡ k = omega arith in subst (λ (i : ℕ). get_or new i d ≡ f k) none (h.inside k d below)
+
+-- the same for places that are different
+pub FilledAt-none : {A : Type 0} (xs : List A) (at : ℕ → ℕ) (f : ℕ → A) → FilledAt xs xs at 0 f
+FilledAt-none xs at f = record { len = refl; inside = λ k d below. absurd (omega arith); outside = λ i d h. refl }
+
+pub FilledAt-more : {A : Type 0} (old new : List A) (at : ℕ → ℕ) (k here : ℕ) (f : ℕ → A) (v : A) → FilledAt old new at k f → here ≡ at k → at k < length old → ((j : ℕ) → j < k → at j ≢ at k) → v ≡ f k → FilledAt old (set new here v) at (k + 1) f
+FilledAt-more old new at k here f v was is below once same = record {
+  len = length-set new here v ∙ was.len;
+  inside = λ j d less. dite (ℕ_discrete j k)
+      (λ (e : j ≡ k). subst (λ i. get_or (set new here v) i d ≡ f j) (is ∙ ap at (sym e)) (get_or-set_same new here v d (omega (arith, was.len)) ∙ same ∙ ap f (sym e)))
+      (λ (ne : j ≢ k). let low : j < k = omega arith in get_or-set_other new here (at j) v d (λ e. once j low (e ∙ is)) ∙ was.inside j d low);
+  outside = λ i d h. get_or-set_other new here i v d (λ e. h k (omega arith) (sym is ∙ sym e)) ∙ was.outside i d (λ j low. h j (omega arith));
+}
 
 -- a write at i, where the function changes at i alone
 pub Lists-set : {A : Type 0} (xs : List A) (n i : ℕ) (v : A) (f g : ℕ → A) → Lists xs n f → i < n → g i ≡ v → ((k : ℕ) → k ≢ i → g k ≡ f k) → Lists (set xs i v) n g

@@ -54,7 +54,7 @@ opens z p h l was lane closed =
       marks = s.marks;
       roots_marked = s.roots_marked;
       removed = s.removed;
-      room = s.room;
+      free = s.free;
       none_agreed = s.none_agreed;
     }
 
@@ -105,7 +105,7 @@ closes z p h l was lane is =
       marks = s.marks;
       roots_marked = s.roots_marked;
       removed = s.removed;
-      room = s.room;
+      free = s.free;
       none_agreed = s.none_agreed;
     }
 

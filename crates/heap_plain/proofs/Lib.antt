@@ -1,9 +1,11 @@
 pub mod Fillings
+pub mod Stacking
 pub mod WorldFacts
 pub mod Entries
 pub mod FrameSteps
 pub mod Beginning
 pub mod Standing
+pub mod Popping
 pub mod NewNames
 pub mod CreateSteps
 pub mod Refusals

@@ -55,10 +55,10 @@ few_below n xs d less = let t = no_longer xs (below n) d (λ k h. among_below n 
 
 -- ---- one unit
 
-module _ {z : Sizes} {names : List (Option Name)} {made : List ℕ} {kinds : ℕ → List Kind} {firsts sizes : List ℕ} {lives : List Life} {units : List (List Name)}
-    (ns : NamesShow z names made kinds) (us : UnitsShow z names firsts sizes lives units) (apart : AreApart kinds units) where
+module _ {z : Sizes} {names : List (Option Name)} {made : List ℕ} {kinds : ℕ → List Kind} {firsts sizes links : List ℕ} {lives : List Life} {units : List (List Name)}
+    (ns : NamesShow z names made kinds) (us : UnitsShow z names firsts sizes links lives units) (apart : AreApart kinds units) where
   abbrev Stands : ℕ → List Name → Type 0
-  Stands head u = StandsAt names firsts sizes lives units head u
+  Stands head u = StandsAt names firsts sizes links lives units head u
 
   -- a name of one unit is in no other
   pub not_in : (head other : ℕ) (u v : List Name) (n m : Name) → Stands head u → Stands other v → has u n ≡ true → other ≢ head → Among v m → same_name m n ≡ false
@@ -90,8 +90,8 @@ module _ {z : Sizes} {names : List (Option Name)} {made : List ℕ} {kinds : ℕ
 
   -- a white unit is marked
   pub mark_one : {marked : List Bool} {listed grey : List ℕ} {kept fresh scanned : List Name} (head : ℕ) (u : List Name) (n : Name) → Stands head u → has u n ≡ true → get_or marked head false ≡ false → head < length marked
-      → MarksShow names firsts sizes lives units marked listed grey kept fresh scanned
-      → MarksShow names firsts sizes lives units (set marked head true) (listed ++ head ∷ []) (grey ++ head ∷ []) (n ∷ kept) fresh scanned
+      → MarksShow names firsts sizes links lives units marked listed grey kept fresh scanned
+      → MarksShow names firsts sizes links lives units (set marked head true) (listed ++ head ∷ []) (grey ++ head ∷ []) (n ∷ kept) fresh scanned
   mark_one {marked} {listed} {grey} {kept} {fresh} {scanned} head u n t e white inside k = record {
     bits = bits;
     listed_marked = λ other a. listed_marked other (among_append listed (head ∷ []) other a);
@@ -145,8 +145,8 @@ module _ {z : Sizes} {names : List (Option Name)} {made : List ℕ} {kinds : ℕ
 -- ---- places of the worklist
 
 -- a white head has room on it
-pub work_room : {z : Sizes} {names : List (Option Name)} {firsts sizes : List ℕ} {lives : List Life} {units : List (List Name)} {marked : List Bool} {work : List ℕ} {scanned pushed : ℕ} {kept fresh black : List Name} (head : ℕ)
-    → WorkShows z marked work scanned pushed → MarksShow names firsts sizes lives units marked (pushed_of work pushed) (grey_of work scanned pushed) kept fresh black → head < item_count z → get_or marked head false ≡ false → pushed < item_count z
+pub work_room : {z : Sizes} {names : List (Option Name)} {firsts sizes links : List ℕ} {lives : List Life} {units : List (List Name)} {marked : List Bool} {work : List ℕ} {scanned pushed : ℕ} {kept fresh black : List Name} (head : ℕ)
+    → WorkShows z marked work scanned pushed → MarksShow names firsts sizes links lives units marked (pushed_of work pushed) (grey_of work scanned pushed) kept fresh black → head < item_count z → get_or marked head false ≡ false → pushed < item_count z
 work_room {z} {marked} {work} {pushed} head ws k inside white =
     let t = few_below (item_count z) (head ∷ pushed_of work pushed) ((λ a. let black_bit = k.listed_marked head a in absurd (cc)), k.distinct) small in
     let len : length (pushed_of work pushed) ≡ pushed = length-take-le pushed work (omega (arith, ws.few, ws.work_len)) in

@@ -1,9 +1,6 @@
 -- The names of a new unit, and its members.
-use Rattle.std.proofs.Common.{◌≡◌, ◌≢◌, ℕ, ◌+◌, ◌*◌, ◌<◌, ◌≤◌, ◌==◌, refl, sym, subst, ap, ◌∙◌, inl, inr, zero, suc, arith, Bool, cond, true, false, ◌||◌, ◌-◌, List, [], ◌∷◌, ◌++◌, length, get_or, map, ◌⊎◌, count_by, suc-mul}
+use Rattle.std.proofs.Common.{◌≡◌, ℕ, ◌+◌, ◌<◌, ◌==◌, refl, sym, subst, ap, ◌∙◌, inl, inr, zero, suc, arith, Bool, cond, true, false, ◌||◌, ◌-◌, List, [], ◌∷◌, ◌++◌, length, get_or, map, ◌⊎◌, count_by}
 use Rattle.std.specs.List.{flat_map}
-use Rattle.std.proofs.Math.Logic.{dite}
-use Rattle.std.proofs.Math.Decide.{ℕ_discrete, dec_le}
-use Rattle.std.proofs.Math.Nat.{lt_of_not-le, mul-le-mul_right}
 use Rattle.std.proofs.lemmas.List.Folds.{list_any-append}
 use Rattle.std.proofs.lemmas.List.Sums.{sum_by-append}
 use Rattle.world_model.specs.NameLists.{same_name, has, names_from, members}
@@ -12,23 +9,6 @@ use Rattle.world_model.proofs.NameFacts.{same_name_refl, names_from_range}
 use Rattle.heap_plain.specs.Types.{Name, Ref, Kind}
 use Rattle.heap_plain.specs.Sections.{Distinct}
 use Rattle.heap_plain.proofs.WorldFacts.{has_among, among_has, among_left, among_right}
-
--- ---- indexes
-
--- a lower lane's indexes lie below
-below_lane : (l k q m : ℕ) → l < k → m < q → l * q + m < k * q
-below_lane l k q m h b = let a : suc l * q ≤ k * q = mul-le-mul_right q h in omega (arith, suc-mul l q)
-
--- an index is of one lane
-pub one_lane : (l k q m n : ℕ) → m < q → n < q → l * q + m ≡ k * q + n → l ≡ k
-one_lane l k q m n a b e = dite (ℕ_discrete l k) (λ (h : l ≡ k). h) (λ (ne : l ≢ k).
-    dite (dec_le k l)
-    (λ (h : k ≤ l). let lt : k < l = omega arith in let t = below_lane k l q n lt b in absurd (omega arith))
-    (λ (h : ¬ (k ≤ l)). let lt : l < k = lt_of_not-le h in let t = below_lane l k q m lt a in absurd (omega arith)))
-
--- places of a lane are indexes
-pub lane_room : (l lanes q m c : ℕ) → l < lanes → m + c ≤ q → l * q + m + c ≤ lanes * q
-lane_room l lanes q m c h b = let a : suc l * q ≤ lanes * q = mul-le-mul_right q h in omega (arith, suc-mul l q)
 
 -- ---- names in a row
 
@@ -66,19 +46,26 @@ count_one p n names =
     let t : count_by p (n ∷ names) ≡ 0 + cond {A = ℕ} (p n) 1 0 + count_by p names = sum_by-append (λ x. cond {A = ℕ} (p x) 1 0) (n ∷ []) names in
     omega arith
 
-pub count_row_own : (lane first k : ℕ) (kinds : List Kind) → (lane == k) ≡ true → count_by (λ n. n.lane == k) (names_from lane first kinds) ≡ length kinds
+count_row_own : (lane first k : ℕ) (kinds : List Kind) → (lane == k) ≡ true → count_by (λ n. n.lane == k) (names_from lane first kinds) ≡ length kinds
 count_row_own lane first k [] e = refl
 count_row_own lane first k (kind ∷ kinds) e =
     let one = count_one (λ n. n.lane == k) (record { lane = lane; count = first }) (names_from lane (first + 1) kinds) in
     let bit : cond {A = ℕ} (lane == k) 1 0 ≡ 1 = ap (λ (b : Bool). cond {A = ℕ} b 1 0) e in
     omega (arith, count_row_own lane (first + 1) k kinds e)
 
-pub count_row_other : (lane first k : ℕ) (kinds : List Kind) → (lane == k) ≡ false → count_by (λ n. n.lane == k) (names_from lane first kinds) ≡ 0
+count_row_other : (lane first k : ℕ) (kinds : List Kind) → (lane == k) ≡ false → count_by (λ n. n.lane == k) (names_from lane first kinds) ≡ 0
 count_row_other lane first k [] e = refl
 count_row_other lane first k (kind ∷ kinds) e =
     let one = count_one (λ n. n.lane == k) (record { lane = lane; count = first }) (names_from lane (first + 1) kinds) in
     let bit : cond {A = ℕ} (lane == k) 1 0 ≡ 0 = ap (λ (b : Bool). cond {A = ℕ} b 1 0) e in
     omega (arith, count_row_other lane (first + 1) k kinds e)
+
+pub count_row : (lane first k : ℕ) (kinds : List Kind) → count_by (λ n. n.lane == k) (names_from lane first kinds) ≡ cond (lane == k) (length kinds) 0
+count_row lane first k kinds = go (lane == k) refl
+  where
+    go : (b : Bool) → (lane == k) ≡ b → count_by (λ n. n.lane == k) (names_from lane first kinds) ≡ cond b (length kinds) 0
+    go true e = count_row_own lane first k kinds e
+    go false e = count_row_other lane first k kinds e
 
 -- the references whose names are in a row
 pub names_of_row : (lane first : ℕ) (kinds : List Kind) (out : List Ref) → length out ≡ length kinds → ((k : ℕ) (d : Ref) → k < length out → (get_or out k d).name ≡ record { lane = lane; count = first + k })

@@ -30,6 +30,6 @@ quiet_shows z p s moments slices collector agreed h = record {
   marks = h.marks;
   roots_marked = h.roots_marked;
   removed = h.removed;
-  room = h.room;
+  free = h.free;
   none_agreed = agreed;
 }

@@ -14,7 +14,7 @@ use Rattle.heap_plain.specs.Types.create
 use Rattle.heap_plain.specs.declared.life.Life.{Life}
 use Rattle.heap_plain.specs.Parts.{Parts, Holds}
 use Rattle.heap_plain.specs.Creation.{Refuses}
-use Rattle.heap_plain.specs.Sections.{HeldShow, LivesAt}
+use Rattle.heap_plain.specs.Sections.{HeldShow, LivesAt, spare_at}
 use Rattle.heap_plain.specs.Plain.{IsPlain}
 use Rattle.heap_plain.proofs.WorldFacts.{at_set}
 use Rattle.heap_plain.proofs.Entries.{plain_more, holds_more}
@@ -33,9 +33,9 @@ held_same names lives opened frames l s = record {
 pub keeps_held : (frames : ℕ → Frame) (l k : ℕ) (n : Name) → has (frames k).held n ≡ true → has (set_at frames l (unchanged (frames l)) k).held n ≡ true
 keeps_held frames l k n held = at_set (λ (f : Frame). has f.held n ≡ true) frames l k (unchanged (frames l)) (λ e. subst (λ (x : ℕ). has (frames x).held n ≡ true) e held) (λ ne. held)
 
-pub refuses : (z : Sizes) (p : Parts) (h : List Entry) (l m asked spare room : ℕ) (e : CreateErr) → IsPlain z p h → l < z.lanes → is_open (after h) (Lane l) ≡ true → m ≡ made (after h) l
-    → spare ≡ z.names - m → room ≡ z.quota - m → Refuses asked spare room e → IsPlain z p (h ++ record { pass = Lane l; act = act_of_refusal asked e } ∷ [])
-refuses z p h l m asked spare room (create.NamesSpent left) was lane opened is by_names by_quota d =
+pub refuses : (z : Sizes) (p : Parts) (h : List Entry) (l m asked left room : ℕ) (e : CreateErr) → IsPlain z p h → l < z.lanes → is_open (after h) (Lane l) ≡ true → m ≡ made (after h) l
+    → left ≡ z.names - m → room ≡ spare_at p.spare l → Refuses asked left room e → IsPlain z p (h ++ record { pass = Lane l; act = act_of_refusal asked e } ∷ [])
+refuses z p h l m asked names room (create.NamesSpent left) was lane opened is by_names by_stack d =
     let s = was.shows in
     plain_more z p p h (record { pass = Lane l; act = act.NamesSpent asked left } ∷ []) was
     (record { in_range = lane; frame = record { opened = opened; continues = rw (s.held.paid l) tt }; may = record { rest = omega (arith, d.0); short = d.1 } }, tt)
@@ -52,13 +52,13 @@ refuses z p h l m asked spare room (create.NamesSpent left) was lane opened is b
       marks = s.marks;
       roots_marked = s.roots_marked;
       removed = s.removed;
-      room = s.room;
+      free = s.free;
       none_agreed = s.none_agreed;
     })
-refuses z p h l m asked spare room (create.Full free) was lane opened is by_names by_quota d =
+refuses z p h l m asked names room (create.Full free) was lane opened is by_names by_stack d =
     let s = was.shows in
     plain_more z p p h (record { pass = Lane l; act = act.Full asked free } ∷ []) was
-    (record { in_range = lane; frame = record { opened = opened; continues = rw (s.held.paid l) tt }; may = record { names = omega (arith, d.0); rest = omega (arith, d.1, s.room l); short = d.2 } }, tt)
+    (record { in_range = lane; frame = record { opened = opened; continues = rw (s.held.paid l) tt }; may = record { names = omega (arith, d.0); rest = omega (arith, d.1, s.free.count l lane); short = d.2 } }, tt)
     (record {
       phase = s.phase;
       frames = s.frames;
@@ -72,7 +72,7 @@ refuses z p h l m asked spare room (create.Full free) was lane opened is by_name
       marks = s.marks;
       roots_marked = s.roots_marked;
       removed = s.removed;
-      room = s.room;
+      free = s.free;
       none_agreed = s.none_agreed;
     })
 

@@ -23,7 +23,7 @@ use Rattle.heap_plain.specs.Plain.{Shows, IsPlain}
 use Rattle.heap_plain.proofs.WorldFacts.{at_set, in_world_of, unit_of_is}
 use Rattle.heap_plain.proofs.Fillings.{Lists-set}
 use Rattle.heap_plain.proofs.Entries.{plain_more, holds_more}
-use Rattle.heap_plain.proofs.Standing.{unique_place, name_below}
+use Rattle.heap_plain.proofs.Standing.{name_below}
 use Rattle.heap_plain.proofs.Refusals.{unchanged, held_same, keeps_held}
 use Rattle.heap_plain.proofs.MarkSteps.{mark_one, work_room, work_push, pushed_push, grey_push}
 
@@ -67,7 +67,7 @@ roots_set {z} {names} {lives} {roots} {rooted} i n on ns here s = record {
       where
         go : (b : Bool) → same_name m n ≡ b → cond b on (rooted m) ≡ rooted m
         go false e = refl
-        go true e = absurd (ne (unique_place ns j i n (at ∙ ap (λ (x : Name). Some x) (same_name_true m n e)) here.name))
+        go true e = absurd (ne (ns.alone j i n (at ∙ ap (λ (x : Name). Some x) (same_name_true m n e)) here.name))
 
     living : (m : Name) (b : Bool) → same_name m n ≡ b → cond b on (rooted m) ≡ true → (j : ℕ) × LivesAt names lives j m
     living m true is e = (i, subst (λ (x : Name). LivesAt names lives i x) (sym (same_name_true m n is)) here)
@@ -125,7 +125,7 @@ module _ (z : Sizes) (p : Parts) (h : List Entry) (l : ℕ) (at : Ref) (was : Is
   abbrev u : List Name
   u = (s.units.each at.index here.life).0
 
-  stands : StandsAt p.names p.firsts p.sizes p.lives (after h).units head u
+  stands : StandsAt p.names p.firsts p.sizes p.next p.lives (after h).units head u
   stands = (s.units.each at.index here.life).1
 
   member : has u n ≡ true
@@ -171,7 +171,7 @@ module _ (z : Sizes) (p : Parts) (h : List Entry) (l : ℕ) (at : Ref) (was : Is
         marks = s.marks;
         roots_marked = λ e. roots_marked_set p.firsts p.roots p.marked at.index on (omega (arith, index_below, s.roots.bits.len)) (λ o. shaded o e) (s.roots_marked e);
         removed = s.removed;
-        room = s.room;
+        free = s.free;
         none_agreed = s.none_agreed;
       })
 
@@ -224,7 +224,7 @@ module _ (z : Sizes) (p : Parts) (h : List Entry) (l : ℕ) (at : Ref) (was : Is
         marks = λ m. rw (grey_push p.work p.scanned p.pushed head room s.work.order, pushed_push p.work p.pushed head room) after_mark;
         roots_marked = λ m. roots_marked_set p.firsts p.roots (set p.marked head true) at.index true (omega (arith, index_below, s.roots.bits.len)) (λ o. now_marked) (λ i r. still (first_at p.firsts i) (s.roots_marked e i r));
         removed = s.removed;
-        room = s.room;
+        free = s.free;
         none_agreed = s.none_agreed;
       })
     where
@@ -240,7 +240,7 @@ module _ (z : Sizes) (p : Parts) (h : List Entry) (l : ℕ) (at : Ref) (was : Is
       still : (i : ℕ) → get_or p.marked i false ≡ true → get_or (set p.marked head true) i false ≡ true
       still i b = dite (ℕ_discrete i head) (λ (eq : i ≡ head). ap (λ (j : ℕ). get_or (set p.marked head true) j false) eq ∙ now_marked) (λ (ne : i ≢ head). get_or-set_other p.marked head i true false ne ∙ b)
 
-      after_mark : MarksShow p.names p.firsts p.sizes p.lives (after h).units (set p.marked head true) (pushed_of p.work p.pushed ++ head ∷ []) (grey_of p.work p.scanned p.pushed ++ head ∷ []) (n ∷ (state_of h).marks.kept) (state_of h).marks.fresh (state_of h).marks.scanned
+      after_mark : MarksShow p.names p.firsts p.sizes p.next p.lives (after h).units (set p.marked head true) (pushed_of p.work p.pushed ++ head ∷ []) (grey_of p.work p.scanned p.pushed ++ head ∷ []) (n ∷ (state_of h).marks.kept) (state_of h).marks.fresh (state_of h).marks.scanned
       after_mark = mark_one s.names s.units apart head u n stands member white inside (s.marks e)
 
   pub shaded_held : (old : Bool) (k : ℕ) (r : Ref) → Holds record { history = h; names = p.names } k r → Holds record { history = h ++ both old; names = p.names } k r

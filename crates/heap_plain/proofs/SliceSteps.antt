@@ -38,13 +38,13 @@ use Rattle.heap_plain.proofs.MarkSteps.{not_in, distinct_drop}
 
 -- ---- one unit is scanned
 
-module _ {z : Sizes} {names : List (Option Name)} {made : List ℕ} {kinds : ℕ → List Kind} {firsts sizes : List ℕ} {lives : List Life} {units : List (List Name)}
-    (ns : NamesShow z names made kinds) (us : UnitsShow z names firsts sizes lives units) (apart : AreApart kinds units) where
-  scanned_same : (head other : ℕ) (u v : List Name) (n : Name) (scanned : List Name) → StandsAt names firsts sizes lives units head u → StandsAt names firsts sizes lives units other v → has u n ≡ true → other ≢ head → list_any (has scanned) v ≡ list_any (has (n ∷ scanned)) v
+module _ {z : Sizes} {names : List (Option Name)} {made : List ℕ} {kinds : ℕ → List Kind} {firsts sizes links : List ℕ} {lives : List Life} {units : List (List Name)}
+    (ns : NamesShow z names made kinds) (us : UnitsShow z names firsts sizes links lives units) (apart : AreApart kinds units) where
+  scanned_same : (head other : ℕ) (u v : List Name) (n : Name) (scanned : List Name) → StandsAt names firsts sizes links lives units head u → StandsAt names firsts sizes links lives units other v → has u n ≡ true → other ≢ head → list_any (has scanned) v ≡ list_any (has (n ∷ scanned)) v
   scanned_same head other u v n scanned t q e ne = any_same (has scanned) (has (n ∷ scanned)) v (λ m a. let f = not_in ns us apart head other u v n m t q e ne a in rw f refl)
 
-  pub scan_one : {marked : List Bool} {listed grey : List ℕ} {kept fresh scanned : List Name} (head : ℕ) (u : List Name) (n : Name) → StandsAt names firsts sizes lives units head u → has u n ≡ true → Distinct (head ∷ grey)
-      → MarksShow names firsts sizes lives units marked listed (head ∷ grey) kept fresh scanned → MarksShow names firsts sizes lives units marked listed grey kept fresh (n ∷ scanned)
+  pub scan_one : {marked : List Bool} {listed grey : List ℕ} {kept fresh scanned : List Name} (head : ℕ) (u : List Name) (n : Name) → StandsAt names firsts sizes links lives units head u → has u n ≡ true → Distinct (head ∷ grey)
+      → MarksShow names firsts sizes links lives units marked listed (head ∷ grey) kept fresh scanned → MarksShow names firsts sizes links lives units marked listed grey kept fresh (n ∷ scanned)
   scan_one {marked} {listed} {grey} {kept} {fresh} {scanned} head u n t e once k = record {
     bits = k.bits;
     listed_marked = k.listed_marked;
@@ -74,9 +74,9 @@ module _ {z : Sizes} {names : List (Option Name)} {made : List ℕ} {kinds : ℕ
           let f = test_among (has kept) r.0 (and_true _ _ r.2).0 in
           k.bits head r.0 r.1 ∙ among_test (λ m. has kept m || has fresh m) r.0 f.0 f.1 (rw f.2 refl)
 
-      all_grey : (other : ℕ) (v : List Name) → StandsAt names firsts sizes lives units other v → (list_any (has kept) v && not (list_any (has (n ∷ scanned)) v)) ≡ true → (other ≡ head) ⊎ (other ≢ head) → Among grey other
+      all_grey : (other : ℕ) (v : List Name) → StandsAt names firsts sizes links lives units other v → (list_any (has kept) v && not (list_any (has (n ∷ scanned)) v)) ≡ true → (other ≡ head) ⊎ (other ≢ head) → Among grey other
       all_grey other v q is (inl same) =
-          let unit : u ≡ v = one_unit apart us head u v t (subst (λ (x : ℕ). StandsAt names firsts sizes lives units x v) same q) in
+          let unit : u ≡ v = one_unit apart us head u v t (subst (λ (x : ℕ). StandsAt names firsts sizes links lives units x v) same q) in
           absurd (wrong (list_any (has (n ∷ scanned)) u) scanned_now (ap (λ (x : List Name). not (list_any (has (n ∷ scanned)) x)) unit ∙ (and_true (list_any (has kept) v) _ is).1))
       all_grey other v q is (inr ne) =
           let parts = and_true _ _ is in
@@ -89,25 +89,25 @@ module _ {z : Sizes} {names : List (Option Name)} {made : List ℕ} {kinds : ℕ
 -- ---- units in a row
 
 -- what the notes of these units do from a state on, in a slice of the marker
-pub record ScanRun (z : Sizes) (names : List (Option Name)) (firsts sizes : List ℕ) (lives : List Life) (marked : List Bool) (listed rest heads : List ℕ) (marker budget : ℕ) (s : State) (of : List Name) : Type 0 where
+pub record ScanRun (z : Sizes) (names : List (Option Name)) (firsts sizes links : List ℕ) (lives : List Life) (marked : List Bool) (listed rest heads : List ℕ) (marker budget : ℕ) (s : State) (of : List Name) : Type 0 where
   pub legal : LegalFrom z s (by (Marker marker) (map act.Scanned of))
   pub world : (run s (by (Marker marker) (map act.Scanned of))).world ≡ s.world
   pub frames : (run s (by (Marker marker) (map act.Scanned of))).frames ≡ s.frames
   pub agreed : (run s (by (Marker marker) (map act.Scanned of))).collector.agreed ≡ s.collector.agreed
-  pub marks : s.world.phase ≡ Marking → MarksShow names firsts sizes lives s.world.units marked listed rest (run s (by (Marker marker) (map act.Scanned of))).marks.kept (run s (by (Marker marker) (map act.Scanned of))).marks.fresh (run s (by (Marker marker) (map act.Scanned of))).marks.scanned
+  pub marks : s.world.phase ≡ Marking → MarksShow names firsts sizes links lives s.world.units marked listed rest (run s (by (Marker marker) (map act.Scanned of))).marks.kept (run s (by (Marker marker) (map act.Scanned of))).marks.fresh (run s (by (Marker marker) (map act.Scanned of))).marks.scanned
   pub total : member_count ((run s (by (Marker marker) (map act.Scanned of))).slices marker).scanned ≡ member_count (s.slices marker).scanned + size_of sizes heads
   pub within : WasWithin budget ((run s (by (Marker marker) (map act.Scanned of))).slices marker).scanned
 
 pub count_cons : {A : Type 0} (f : A → ℕ) (x : A) (xs : List A) → sum_by f (x ∷ xs) ≡ f x + sum_by f xs
 count_cons f x xs = let t : sum_by f (x ∷ xs) ≡ 0 + f x + sum_by f xs = sum_by-append f (x ∷ []) xs in omega arith
 
-pub scan_run : (z : Sizes) (names : List (Option Name)) (firsts sizes : List ℕ) (lives : List Life) (made : List ℕ) (roots : List Bool) (s : State) (marked : List Bool) (listed heads rest : List ℕ) (marker budget : ℕ)
-    → AreApart s.world.kinds s.world.units → NamesShow z names made s.world.kinds → UnitsShow z names firsts sizes lives s.world.units → RootsShow z names lives roots s.world.rooted s.world.cell s.world.strong
+pub scan_run : (z : Sizes) (names : List (Option Name)) (firsts sizes links : List ℕ) (lives : List Life) (made : List ℕ) (roots : List Bool) (s : State) (marked : List Bool) (listed heads rest : List ℕ) (marker budget : ℕ)
+    → AreApart s.world.kinds s.world.units → NamesShow z names made s.world.kinds → UnitsShow z names firsts sizes links lives s.world.units → RootsShow z names lives roots s.world.rooted s.world.cell s.world.strong
     → marker < z.markers → is_open s.world (Marker marker) ≡ true → ((x : ℕ) → Among heads x → s.world.phase ≡ Marking) → Distinct (heads ++ rest)
-    → (s.world.phase ≡ Marking → MarksShow names firsts sizes lives s.world.units marked listed (heads ++ rest) s.marks.kept s.marks.fresh s.marks.scanned)
+    → (s.world.phase ≡ Marking → MarksShow names firsts sizes links lives s.world.units marked listed (heads ++ rest) s.marks.kept s.marks.fresh s.marks.scanned)
     → WasWithin budget (s.slices marker).scanned → ((k : ℕ) → k < length heads → member_count (s.slices marker).scanned + size_of sizes (take k heads) < budget)
-    → ScanRun z names firsts sizes lives marked listed rest heads marker budget s (names_at names heads)
-scan_run z names firsts sizes lives made roots s marked listed [] rest marker budget apart ns us rs range opened busy distinct marks within bounds = record {
+    → ScanRun z names firsts sizes links lives marked listed rest heads marker budget s (names_at names heads)
+scan_run z names firsts sizes links lives made roots s marked listed [] rest marker budget apart ns us rs range opened busy distinct marks within bounds = record {
   legal = tt;
   world = refl;
   frames = refl;
@@ -116,7 +116,7 @@ scan_run z names firsts sizes lives made roots s marked listed [] rest marker bu
   total = omega arith;
   within = within;
 }
-scan_run z names firsts sizes lives made roots s marked listed (head ∷ heads) rest marker budget apart ns us rs range opened busy distinct marks within bounds =
+scan_run z names firsts sizes links lives made roots s marked listed (head ∷ heads) rest marker budget apart ns us rs range opened busy distinct marks within bounds =
     let marking = busy head (inl refl) in
     let k = marks marking in
     let r = k.grey_units head (inl refl) in
@@ -129,7 +129,7 @@ scan_run z names firsts sizes lives made roots s marked listed (head ∷ heads) 
     let now : ((next s entry).slices marker).scanned ≡ u ∷ (s.slices marker).scanned = ap (λ (x : Slicing). x.scanned) (set_at_same s.slices marker _) ∙ ap (λ (v : List Name). v ∷ (s.slices marker).scanned) unit_is in
     let sum : member_count ((next s entry).slices marker).scanned ≡ length u + member_count (s.slices marker).scanned = ap (λ (us : List (List Name)). member_count us) now ∙ count_cons (λ (v : List Name). length v) u (s.slices marker).scanned in
     let first : member_count (s.slices marker).scanned + 0 < budget = bounds 0 (omega arith) in
-    let rest_run = scan_run z names firsts sizes lives made roots (next s entry) marked listed heads rest marker budget apart ns us rs range opened (λ x a. busy x (inr a)) distinct.1
+    let rest_run = scan_run z names firsts sizes links lives made roots (next s entry) marked listed heads rest marker budget apart ns us rs range opened (λ x a. busy x (inr a)) distinct.1
     (λ e. scan_one ns us apart head u n stands member.2 distinct k) (subst (λ (us : List (List Name)). WasWithin budget us) (sym now) (omega arith))
     (λ i b. let t = bounds (suc i) (omega arith) in let c = count_cons (λ (x : ℕ). get_or sizes x 0) head (take i heads) in omega (arith, stands.size)) in
     let may : MayBy z s (Marker marker) (act.Scanned n) = record {
@@ -142,7 +142,7 @@ scan_run z names firsts sizes lives made roots s marked listed (head ∷ heads) 
         targets = λ v unit refers. absurd (let none = rs.cells_empty refers.from refers.slot in let some = refers.cell in cc);
       };
     } in
-    let whole : ScanRun z names firsts sizes lives marked listed rest (head ∷ heads) marker budget s (n ∷ names_at names heads) = record {
+    let whole : ScanRun z names firsts sizes links lives marked listed rest (head ∷ heads) marker budget s (n ∷ names_at names heads) = record {
       legal = (may, rest_run.legal);
       world = rest_run.world;
       frames = rest_run.frames;
@@ -151,7 +151,7 @@ scan_run z names firsts sizes lives made roots s marked listed (head ∷ heads) 
       total = let c = count_cons (λ (x : ℕ). get_or sizes x 0) head heads in omega (arith, rest_run.total, stands.size);
       within = rest_run.within;
     } in
-    subst (λ (o : Option Name). ScanRun z names firsts sizes lives marked listed rest (head ∷ heads) marker budget s (option_to_list o ++ names_at names heads)) (sym member.1.name) whole
+    subst (λ (o : Option Name). ScanRun z names firsts sizes links lives marked listed rest (head ∷ heads) marker budget s (option_to_list o ++ names_at names heads)) (sym member.1.name) whole
 
 -- ---- the call
 
@@ -270,10 +270,10 @@ module _ (z : Sizes) (p : Parts) (h mid : List Entry) (marker budget count total
   empty_now : (s1.slices marker).scanned ≡ []
   empty_now = ap (λ (x : Slicing). x.scanned) (set_at_same (state_of h).slices marker _)
 
-  ran : ScanRun z p.names p.firsts p.sizes p.lives p.marked (pushed_of p.work p.pushed) rest heads marker budget s1 of
-  ran = scan_run z p.names p.firsts p.sizes p.lives p.made p.roots s1 p.marked (pushed_of p.work p.pushed) heads rest marker budget (units_apart z h was.legal) s.names s.units s.roots range opened busy
+  ran : ScanRun z p.names p.firsts p.sizes p.next p.lives p.marked (pushed_of p.work p.pushed) rest heads marker budget s1 of
+  ran = scan_run z p.names p.firsts p.sizes p.next p.lives p.made p.roots s1 p.marked (pushed_of p.work p.pushed) heads rest marker budget (units_apart z h was.legal) s.names s.units s.roots range opened busy
       (subst (λ (xs : List ℕ). Distinct xs) (sym whole_grey) distinct)
-      (λ e. subst (λ (xs : List ℕ). MarksShow p.names p.firsts p.sizes p.lives (after h).units p.marked (pushed_of p.work p.pushed) xs (state_of h).marks.kept (state_of h).marks.fresh (state_of h).marks.scanned) (sym whole_grey) (s.marks (s.phase ∙ e)))
+      (λ e. subst (λ (xs : List ℕ). MarksShow p.names p.firsts p.sizes p.next p.lives (after h).units p.marked (pushed_of p.work p.pushed) xs (state_of h).marks.kept (state_of h).marks.fresh (state_of h).marks.scanned) (sym whole_grey) (s.marks (s.phase ∙ e)))
       (subst (λ (us : List (List Name)). WasWithin budget us) (sym empty_now) tt)
       (λ k b.
       let len : length heads ≡ count = length-take-le count grey scans.few in
@@ -335,10 +335,10 @@ module _ (z : Sizes) (p : Parts) (h mid : List Entry) (marker budget count total
     held = s.held;
     work = record { marked_len = s.work.marked_len; work_len = s.work.work_len; order = omega (arith, scans.few, grey_len, s.work.order); few = s.work.few; entries = s.work.entries };
     idle = λ ne. omega (arith, s.idle ne, scans.few, grey_len);
-    marks = λ e. subst (λ (xs : List ℕ). MarksShow p.names p.firsts p.sizes p.lives (after h).units p.marked (pushed_of p.work p.pushed) xs end.marks.kept end.marks.fresh end.marks.scanned) (sym (drop_more p.scanned count (take p.pushed p.work))) (ran.marks (sym s.phase ∙ e));
+    marks = λ e. subst (λ (xs : List ℕ). MarksShow p.names p.firsts p.sizes p.next p.lives (after h).units p.marked (pushed_of p.work p.pushed) xs end.marks.kept end.marks.fresh end.marks.scanned) (sym (drop_more p.scanned count (take p.pushed p.work))) (ran.marks (sym s.phase ∙ e));
     roots_marked = s.roots_marked;
     removed = s.removed;
-    room = s.room;
+    free = s.free;
     none_agreed = ran.agreed ∙ s.none_agreed;
   }
 

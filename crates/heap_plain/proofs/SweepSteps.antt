@@ -25,7 +25,7 @@ use Rattle.heap_plain.specs.Sections.{Distinct, NamesShow, RemovedShow, removal_
 use Rattle.heap_plain.specs.Plain.{Shows, IsPlain}
 use Rattle.heap_plain.proofs.WorldFacts.{has_among, among_has, among_left, among_right, among_test, no_longer}
 use Rattle.heap_plain.proofs.Entries.{plain_more, holds_more}
-use Rattle.heap_plain.proofs.Standing.{unique_place, life_below}
+use Rattle.heap_plain.proofs.Standing.{life_below}
 use Rattle.heap_plain.proofs.NewNames.{distinct_append}
 use Rattle.heap_plain.proofs.MarkSteps.{distinct_snoc}
 
@@ -67,7 +67,7 @@ distinct_found {names} ns lives from (suc count) = go (life_at lives (from + cou
   where
     go : (life : Life) (o : Option Name) → name_at names (from + count) ≡ o → Distinct (removed_names names lives from count) → Distinct (removed_names names lives from count ++ removed_name life o)
     go Removed (Some n) e d = distinct_snoc (removed_names names lives from count) n d
-        (λ a. let r = found_at names lives from count n a in let same = unique_place ns r.0 (from + count) n r.3 e in absurd (omega (arith, r.2)))
+        (λ a. let r = found_at names lives from count n a in let same = ns.alone r.0 (from + count) n r.3 e in absurd (omega (arith, r.2)))
     go Removed None e d = subst (λ (xs : List Name). Distinct xs) (sym (append-nil (removed_names names lives from count))) d
     go Live o e d = subst (λ (xs : List Name). Distinct xs) (sym (append-nil (removed_names names lives from count))) d
     go Free o e d = subst (λ (xs : List Name). Distinct xs) (sym (append-nil (removed_names names lives from count))) d
@@ -123,7 +123,7 @@ refuses_sweep z p h budget was other =
       marks = s.marks;
       roots_marked = s.roots_marked;
       removed = removed_same _ _ _ _ _ _ _ _ _ s.removed;
-      room = s.room;
+      free = s.free;
       none_agreed = refl;
     })
 
@@ -151,7 +151,7 @@ module _ (z : Sizes) (p : Parts) (h : List Entry) (budget looked count : ℕ) (w
   apart n a b =
       let low = found_low n a in
       let high = found_at p.names p.lives p.swept looked n b in
-      let same = unique_place s.names low.0 high.0 n low.2 high.3 in
+      let same = s.names.alone low.0 high.0 n low.2 high.3 in
       absurd (omega (arith, low.1, high.1))
 
   removed_now : (n : Name) → Among names n → is_at (after h) model.Removed n ≡ true
@@ -249,7 +249,7 @@ module _ (z : Sizes) (p : Parts) (h : List Entry) (budget looked count : ℕ) (w
           left_few = λ e. omega (arith, s.removed.left_few phase_is);
           none_left = s.removed.none_left;
         };
-        room = s.room;
+        free = s.free;
         none_agreed = refl;
       })
     where
@@ -310,6 +310,6 @@ module _ (z : Sizes) (p : Parts) (h : List Entry) (budget looked count : ℕ) (w
           left_few = λ e. absurd cc;
           none_left = λ e. absurd cc;
         };
-        room = s.room;
+        free = s.free;
         none_agreed = refl;
       })

@@ -7,6 +7,7 @@ pub mod Sections
 pub mod Plain
 -- what the functions over the vectors do
 pub mod Filling
+pub mod Stacks
 pub mod Creation
 pub mod Notes
 pub mod Sweeping

@@ -40,12 +40,15 @@ pub record Parts : Type 0 where
   pub names : List (Option Name)
   pub firsts : List ℕ
   pub sizes : List ℕ
+  pub next : List ℕ
   pub lives : List Life
   pub roots : List Bool
   pub marked : List Bool
   pub work : List ℕ
   pub scanned : ℕ
   pub pushed : ℕ
+  pub free : List ℕ
+  pub spare : List ℕ
   pub made : List ℕ
   pub frames : List Bool
   pub phase : Phase
@@ -55,6 +58,10 @@ pub record Parts : Type 0 where
 -- the index of the first member of the unit of the object at an index
 abbrev pub first_at : List ℕ → ℕ → ℕ
 first_at firsts i = get_or firsts i 0
+
+-- where an object is linked to the next member of its unit: the index of that member
+abbrev pub next_at : List ℕ → ℕ → ℕ
+next_at links i = get_or links i 0
 
 abbrev pub life_at : List Life → ℕ → Life
 life_at lives i = get_or lives i Free

@@ -1,10 +1,12 @@
 //! Making a unit.
-ghost use Rattle.std.specs.Prelude.{◌≡◌, ◌∷◌, [], ◌++◌, ◌+◌, ◌≤◌, ◌<◌, ◌^◌, Some, length};
+ghost use Rattle.std.specs.Prelude.{◌≡◌, ◌∷◌, [], ◌++◌, ◌+◌, ◌-◌, ◌≤◌, ◌<◌, ◌^◌, Some, length};
 ghost use Rattle.heap_plain.specs.Types.{Lane};
 ghost use Rattle.world_model.specs.Engines.{act_of_refusal};
-ghost use Rattle.heap_plain.specs.Filling.{Filled};
+ghost use Rattle.heap_plain.specs.Filling.{Filled, FilledAt};
+ghost use Rattle.heap_plain.specs.Stacks.{CanPop, popped};
 ghost use Rattle.heap_plain.specs.Creation.{Decides};
 
+use crate::stacks::popped;
 use world_model::{CreateErr, Diary, Name, Pass, Ref};
 
 /// Whether `asked` objects may be made where `left` names are left and `free` indexes are free.
@@ -31,29 +33,65 @@ pub(crate) fn refuse(lane: u32, asked: u32, refused: CreateErr, diary: &mut Diar
     }
 }
 
-/// Writes the names of a lane from count `first` on to `count` places from `from` on.
-pub(crate) fn place(names: &mut Vec<Option<Name>>, from: usize, count: usize, lane: u32, first: u64)
-    requires room { from + count ≤ length names.old.items }
+/// Writes the names of a lane from count `first` on to the places that the stack gives.
+pub(crate) fn place(
+    names: &mut Vec<Option<Name>>,
+    free: &[u32],
+    top: usize,
+    count: usize,
+    lane: u32,
+    first: u64,
+)
+    requires stack { CanPop free.now top count (length names.old.items) }
     requires few { first + count < 2 ^ 64 }
-    ensures { Filled names.old.items names.new.items from count (λ k. Some (record { lane = lane; count = first + k })) }
+    ensures { FilledAt names.old.items names.new.items (popped free.now top) count (λ k. Some (record { lane = lane; count = first + k })) }
 {
     for k in 0..count {
-        names[from + k] = Some(Name {
+        names[popped(free, top, k) as usize] = Some(Name {
             lane,
             count: first + k as u64,
         });
     }
 }
 
-/// Writes references to the objects at the indexes from `from` on, whose names are those of the lane from count `first` on.
-pub(crate) fn answer(out: &mut [Ref], from: u32, lane: u32, first: u64)
-    requires room { from + length out.old < 2 ^ 32 }
+/// Writes `value` to the places that the stack gives.
+pub(crate) fn fill_popped<T: Copy + Drop>(
+    items: &mut Vec<T>,
+    free: &[u32],
+    top: usize,
+    count: usize,
+    value: T,
+)
+    requires stack { CanPop free.now top count (length items.old.items) }
+    ensures { FilledAt items.old.items items.new.items (popped free.now top) count (λ k. value) }
+{
+    for k in 0..count {
+        items[popped(free, top, k) as usize] = value;
+    }
+}
+
+/// Writes to each place that the stack gives, but the last, the next one.
+pub(crate) fn link(next: &mut Vec<u32>, free: &[u32], top: usize, count: usize)
+    requires some { 1 ≤ count }
+    requires stack { CanPop free.now top count (length next.old.items) }
+    ensures { FilledAt next.old.items next.new.items (popped free.now top) (count - 1) (λ k. popped free.now top (k + 1)) }
+{
+    for k in 0..count - 1 {
+        next[popped(free, top, k) as usize] = popped(free, top, k + 1);
+    }
+}
+
+/// Writes references to the objects at the indexes that the stack gives, whose names are those of
+/// the lane from count `first` on.
+pub(crate) fn answer(out: &mut [Ref], free: &[u32], top: usize, lane: u32, first: u64)
+    requires enough { length out.old ≤ top }
+    requires room { top ≤ length free.now }
     requires few { first + length out.old < 2 ^ 64 }
-    ensures { Filled out.old out.new 0 (length out.old) (λ k. record { index = from + k; name = record { lane = lane; count = first + k } }) }
+    ensures { Filled out.old out.new 0 (length out.old) (λ k. record { index = popped free.now top k; name = record { lane = lane; count = first + k } }) }
 {
     for k in 0..out.len() {
         out[k] = Ref {
-            index: from + k as u32,
+            index: popped(free, top, k),
             name: Name {
                 lane,
                 count: first + k as u64,

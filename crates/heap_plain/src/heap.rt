@@ -2,12 +2,13 @@
 ghost use Rattle.std.specs.Prelude.{◌≡◌, ℕ, ◌+◌, ◌*◌, ◌<◌, [], IfOk};
 ghost use Rattle.heap_plain.specs.Parts.{HoldsNothing};
 
-use crate::creating::{answer, decide, place, refuse};
+use crate::creating::{answer, decide, fill_popped, link, place, refuse};
 use crate::filled::{fill, filled};
 use crate::frames::count_open;
 use crate::life::Life;
 use crate::marking::{is_done, keep_roots, may_end, may_start, scan_units, starts, stop_of};
 use crate::rooting::{must_mark, store};
+use crate::stacks::{full_stacks, popped};
 use crate::sweeping::{find_removed, remove_white};
 use std::alloc::{AllocError, Global};
 use std::marker::{Model, PhantomData};
@@ -19,7 +20,8 @@ use world_model::{
 /// A world of objects over vectors, for one owner.
 ///
 /// All memory is taken by `new`: for each index of the shape its name, the first index and the
-/// size of its unit, whether it lives, its root bit, its mark bit and a place of the worklist.
+/// size of its unit, the index of the next member, whether it lives, its root bit, its mark bit, a
+/// place of the worklist and one of the stack of free indexes.
 /// Opening and closing a frame, setting a root and making a unit cost as many steps as they have
 /// objects; a slice of marking as many as it scans units; the rest looks at all items.
 #[derive(Drop)]
@@ -29,6 +31,8 @@ pub struct PlainHeap<S: Shape> {
     /// At the index of an object that of the first member of its unit, and there the unit's size.
     firsts: Vec<u32>,
     sizes: Vec<u32>,
+    /// At the index of each member of a unit but the last that of the next one.
+    next: Vec<u32>,
     lives: Vec<Life>,
     roots: Vec<bool>,
     /// At the index of the first member of a unit whether the unit is marked.
@@ -38,6 +42,10 @@ pub struct PlainHeap<S: Shape> {
     work: Vec<u32>,
     scanned: usize,
     pushed: usize,
+    /// The stacks of free indexes: that of a lane begins at the lane's first index, and has as many
+    /// entries as the lane has spare indexes.
+    free: Vec<u32>,
+    spare: Vec<u32>,
     /// How many objects each lane has made, and whether its frame is open.
     made: Vec<u64>,
     frames: Vec<bool>,
@@ -63,12 +71,15 @@ impl<S: Shape> Model for PlainHeap<S> {
       names = h.names.items;
       firsts = h.firsts.items;
       sizes = h.sizes.items;
+      next = h.next.items;
       lives = h.lives.items;
       roots = h.roots.items;
       marked = h.marked.items;
       work = h.work.items;
       scanned = h.scanned;
       pushed = h.pushed;
+      free = h.free.items;
+      spare = h.spare.items;
       made = h.made.items;
       frames = h.frames.items;
       phase = h.phase;
@@ -84,17 +95,21 @@ impl<S: Shape> PlainHeap<S> {
         ensures nothing_held { IfOk result HoldsNothing }
     {
         let lanes = S::LANES as usize;
-        let items = lanes * S::QUOTA as usize;
+        let quota = S::QUOTA;
+        let items = lanes * quota as usize;
         Ok(PlainHeap {
             names: filled(alloc, items, None)?,
             firsts: filled(alloc, items, 0)?,
             sizes: filled(alloc, items, 0)?,
+            next: filled(alloc, items, 0)?,
             lives: filled(alloc, items, Life::Free)?,
             roots: filled(alloc, items, false)?,
             marked: filled(alloc, items, false)?,
             work: filled(alloc, items, 0)?,
             scanned: 0,
             pushed: 0,
+            free: full_stacks(alloc, lanes, quota as usize)?,
+            spare: filled(alloc, lanes, quota)?,
             made: filled(alloc, lanes, 0)?,
             frames: filled(alloc, lanes, false)?,
             phase: Phase::Idle,
@@ -131,20 +146,24 @@ impl<S: Shape> Engine<S> for PlainHeap<S> {
     fn create(&mut self, lane: u32, kinds: &[Kind], out: &mut [Ref]) -> Result<(), CreateErr> {
         let asked = kinds.len();
         let made = self.made[lane as usize];
-        let decision = decide(asked as u32, S::NAMES - made, S::QUOTA - made as u32);
+        let spare = self.spare[lane as usize];
+        let decision = decide(asked as u32, S::NAMES - made, spare);
         if let Err(refused) = decision {
             refuse(lane, asked as u32, refused, &mut self.diary);
             return Err(refused);
         }
-        let first = lane as usize * S::QUOTA as usize + made as usize;
-        place(&mut self.names, first, asked, lane, made + 1);
-        fill(&mut self.firsts, first, asked, first as u32);
-        fill(&mut self.lives, first, asked, Life::Live);
-        self.sizes[first] = asked as u32;
-        self.marked[first] = true;
+        let top = lane as usize * S::QUOTA as usize + spare as usize;
+        let head = popped(&self.free, top, 0);
+        place(&mut self.names, &self.free, top, asked, lane, made + 1);
+        fill_popped(&mut self.firsts, &self.free, top, asked, head);
+        fill_popped(&mut self.lives, &self.free, top, asked, Life::Live);
+        link(&mut self.next, &self.free, top, asked);
+        self.sizes[head as usize] = asked as u32;
+        self.marked[head as usize] = true;
+        self.spare[lane as usize] = spare - asked as u32;
         self.made[lane as usize] = made + asked as u64;
         self.diary.make(Pass::Lane(lane), kinds, made + 1);
-        answer(out, first as u32, lane, made + 1);
+        answer(out, &self.free, top, lane, made + 1);
         Ok(())
     }
 

@@ -11,6 +11,7 @@ mod heap;
 mod life;
 mod marking;
 mod rooting;
+mod stacks;
 mod sweeping;
 
 pub use heap::PlainHeap;

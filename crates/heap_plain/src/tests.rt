@@ -115,11 +115,20 @@ fn a_lane_is_full(rt: HostRuntime) -> Result<(), Fail> {
     let mut heap = PlainHeap::<Small>::new(rt.alloc())?;
     let mut cluster = [NOTHING; 7];
     let mut pair = [NOTHING; 2];
+    let mut one = [NOTHING; 1];
     assert_eq!(rt; heap.open_frame(0), Phase::Idle);
     assert_eq!(rt; heap.create(0, &[PLAIN; 7], &mut cluster), Ok(()));
     assert_eq!(rt;
         heap.create(0, &[PLAIN; 2], &mut pair),
         Err(CreateErr::Full { free: 1 })
+    );
+    assert_eq!(rt; heap.create(0, &[PLAIN; 1], &mut one), Ok(()));
+    assert_eq!(rt;
+        one[0],
+        Ref {
+            index: 7,
+            name: Name { lane: 0, count: 8 }
+        }
     );
     Ok(())
 }

@@ -1,8 +1,27 @@
-use Rattle.heap_plain.proofs.Beginning.{begins}
+use Rattle.std.proofs.Common.{sym, ◌∙◌}
+use Rattle.heap_plain.specs.Types.{Idle}
+use Rattle.heap_plain.proofs.Beginning.{begins_as}
 use Rattle.heap_plain.proofs.heap.PlainHeap.new.Goals as goal
 
 pub invariant_of-result : goal.invariant_of-result
 invariant_of-result g c =
     let is = g.S.Shape.constants in
-    rw (c.in_ok-filled.ensures, c.in_ok-filled-2.ensures, c.in_ok-filled-3.ensures, c.in_ok-filled-4.ensures, c.in_ok-filled-5.ensures, c.in_ok-filled-6.ensures, c.in_ok-filled-7.ensures, c.in_ok-filled-8.ensures, c.in_ok-filled-9.ensures, c.in_ok-new.ensures, c.LANES-lanes.ensures, c.QUOTA.ensures, is.lanes, is.quota)
-    (begins g.S.Shape.sizes g.S.Shape.lawful)
+    rw c.in_ok-new.ensures (begins_as g.S.Shape.sizes c.LANES-lanes.result c.QUOTA-quota.result _ g.S.Shape.lawful (c.LANES-lanes.ensures ∙ is.lanes) (c.QUOTA-quota.ensures ∙ is.quota) (λ t. record {
+      names = sym c.in_ok-filled.ensures t;
+      firsts = sym c.in_ok-filled-2.ensures t;
+      sizes = sym c.in_ok-filled-3.ensures t;
+      next = sym c.in_ok-filled-4.ensures t;
+      lives = sym c.in_ok-filled-5.ensures t;
+      roots = sym c.in_ok-filled-6.ensures t;
+      marked = sym c.in_ok-filled-7.ensures t;
+      work = sym c.in_ok-filled-8.ensures t;
+      scanned = 0;
+      pushed = 0;
+      free = sym c.in_ok-full_stacks.ensures t;
+      spare = sym c.in_ok-filled-9.ensures t;
+      made = sym c.in_ok-filled-10.ensures t;
+      frames = sym c.in_ok-filled-11.ensures t;
+      phase = Idle;
+      left = 0;
+      swept = 0;
+    }))

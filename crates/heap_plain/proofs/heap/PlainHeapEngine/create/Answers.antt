@@ -1,112 +1,144 @@
-use Rattle.std.proofs.Common.{◌≡◌, ◌+◌, ◌-◌, refl, ap, ◌∙◌, arith, length}
+use Rattle.std.proofs.Common.{◌≡◌, ◌+◌, ◌-◌, refl, ap, ◌∙◌, arith}
 use Rattle.world_model.specs.World.{made}
 use Rattle.world_model.specs.Histories.{after}
 use Rattle.heap_plain.specs.Types.{Ref}
 use Rattle.heap_plain.proofs.WorldFacts.{appends_one}
 use Rattle.heap_plain.proofs.Fillings.{from_start}
-use Rattle.heap_plain.proofs.NewNames.{lane_room, names_of_row}
+use Rattle.heap_plain.proofs.Popping.{spare_read, pops}
+use Rattle.heap_plain.proofs.NewNames.{names_of_row}
 use Rattle.heap_plain.proofs.Refusals.{refuses, refuses_held, refusal_alone}
-use Rattle.heap_plain.proofs.CreateSteps.{creates, still_held, new_held}
+use Rattle.heap_plain.proofs.CreateSteps.{Creation, creates, still_held, new_held}
+use Rattle.heap_plain.proofs.heap.PlainHeapEngine.create.Given.{Over}
 use Rattle.heap_plain.proofs.heap.PlainHeapEngine.create.Goals as goal
 
 pub invariant_of-self : goal.invariant_of-self
 invariant_of-self g c =
     let frame = rw (← c.self.view_is) at c.requires.frame in
-    let is : c.index-made.result.now ≡ made (after c.self.inside.diary) c.args.lane = c.index-made.ensures ∙ c.self.invariant.shows.names.counts.each c.args.lane c.index-made.result.now frame.in_range in
+    let s = c.self.invariant.shows in
+    let is : c.index-made.result.now ≡ made (after c.self.inside.diary) c.args.lane = c.index-made.ensures ∙ s.names.counts.each c.args.lane c.index-made.result.now frame.in_range in
     rw c.refuse.ensures (refuses _ _ _ _ _ _ _ _ _ c.self.invariant frame.in_range frame.opened is
-    (ap (λ k. k - c.index-made.result.now) (c.NAMES.ensures ∙ g.S.Shape.constants.names)) (ap (λ k. k - c.index-made.result.now) (c.QUOTA.ensures ∙ g.S.Shape.constants.quota)) c.in-Err.ensures)
+    (ap (λ k. k - c.index-made.result.now) (c.NAMES.ensures ∙ g.S.Shape.constants.names)) (spare_read s.free _ _ frame.in_range c.index-spare.ensures) c.in-Err.ensures)
 
 pub returns-in-Err-clause-entries : goal.returns-in-Err-clause-entries
-returns-in-Err-clause-entries g c =
-    let frame = rw (← c.self.view_is) at c.requires.frame in
-    let is : c.index-made.result.now ≡ made (after c.self.inside.diary) c.args.lane = c.index-made.ensures ∙ c.self.invariant.shows.names.counts.each c.args.lane c.index-made.result.now frame.in_range in
-    rw (← c.self.view_is) (appends_one _ _ _ _ _ (refusal_alone c.self.inside.diary c.args.lane _ _) c.refuse.ensures
-    (rw c.refuse.ensures (refuses _ _ _ _ _ _ _ _ _ c.self.invariant frame.in_range frame.opened is
-    (ap (λ k. k - c.index-made.result.now) (c.NAMES.ensures ∙ g.S.Shape.constants.names)) (ap (λ k. k - c.index-made.result.now) (c.QUOTA.ensures ∙ g.S.Shape.constants.quota)) c.in-Err.ensures).legal))
+returns-in-Err-clause-entries g c = rw (← c.self.view_is) (appends_one _ _ _ _ _ (refusal_alone c.self.inside.diary c.args.lane _ _) c.refuse.ensures (invariant_of-self g c).legal)
 
 pub returns-in-Err-clause-held : goal.returns-in-Err-clause-held
 returns-in-Err-clause-held g c = rw (← c.self.view_is, c.refuse.ensures) (refuses_held _ _ _ _ _)
 
-pub place-requires-clause-room : goal.place-requires-clause-room
-place-requires-clause-room g c =
+pub popped-head-requires-clause-room : goal.popped-head-requires-clause-room
+popped-head-requires-clause-room g c =
     let frame = rw (← c.self.view_is) at c.requires.frame in
-    let d = c.in_default.ensures in
-    let q = g.S.Shape.constants.quota in
-    rw (c.QUOTA-2.ensures, q) (omega (arith, lane_room c.args.lane g.S.Shape.sizes.lanes g.S.Shape.sizes.quota c.index-made.result.now (length c.args.kinds.now) frame.in_range (omega (arith, d.1, c.QUOTA.ensures, q, c.requires.some)), c.self.invariant.shows.names.items))
+    (pops c.self.invariant.shows.free _ _ _ _ _ _ frame.in_range c.index-spare.ensures
+    (c.QUOTA.ensures ∙ g.S.Shape.constants.quota) refl c.deref.ensures.value c.in_default.ensures.1).room
 
-pub fill-requires : goal.fill-requires
-fill-requires g c =
+pub place-requires-clause-stack : goal.place-requires-clause-stack
+place-requires-clause-stack g c =
     let frame = rw (← c.self.view_is) at c.requires.frame in
-    let d = c.in_default.ensures in
-    let q = g.S.Shape.constants.quota in
-    rw (c.QUOTA-2.ensures, q) (omega (arith, lane_room c.args.lane g.S.Shape.sizes.lanes g.S.Shape.sizes.quota c.index-made.result.now (length c.args.kinds.now) frame.in_range (omega (arith, d.1, c.QUOTA.ensures, q, c.requires.some)), c.self.invariant.shows.units.firsts_len))
+    pops c.self.invariant.shows.free _ _ _ _ _ _ frame.in_range c.index-spare.ensures
+    (c.QUOTA.ensures ∙ g.S.Shape.constants.quota) c.self.invariant.shows.names.items c.deref-2.ensures.value c.in_default.ensures.1
 
-pub fill-requires-2 : goal.fill-requires-2
-fill-requires-2 g c =
+pub fill_popped-requires : goal.fill_popped-requires
+fill_popped-requires g c =
     let frame = rw (← c.self.view_is) at c.requires.frame in
-    let d = c.in_default.ensures in
-    let q = g.S.Shape.constants.quota in
-    rw (c.QUOTA-2.ensures, q) (omega (arith, lane_room c.args.lane g.S.Shape.sizes.lanes g.S.Shape.sizes.quota c.index-made.result.now (length c.args.kinds.now) frame.in_range (omega (arith, d.1, c.QUOTA.ensures, q, c.requires.some)), c.self.invariant.shows.units.lives_len))
+    record {
+      stack = pops c.self.invariant.shows.free _ _ _ _ _ _ frame.in_range c.index-spare.ensures
+          (c.QUOTA.ensures ∙ g.S.Shape.constants.quota) c.self.invariant.shows.units.firsts_len c.deref-3.ensures.value c.in_default.ensures.1;
+    }
+
+pub fill_popped-requires-2 : goal.fill_popped-requires-2
+fill_popped-requires-2 g c =
+    let frame = rw (← c.self.view_is) at c.requires.frame in
+    record {
+      stack = pops c.self.invariant.shows.free _ _ _ _ _ _ frame.in_range c.index-spare.ensures
+          (c.QUOTA.ensures ∙ g.S.Shape.constants.quota) c.self.invariant.shows.units.lives_len c.deref-4.ensures.value c.in_default.ensures.1;
+    }
+
+pub link-requires-clause-stack : goal.link-requires-clause-stack
+link-requires-clause-stack g c =
+    let frame = rw (← c.self.view_is) at c.requires.frame in
+    pops c.self.invariant.shows.free _ _ _ _ _ _ frame.in_range c.index-spare.ensures
+    (c.QUOTA.ensures ∙ g.S.Shape.constants.quota) c.self.invariant.shows.units.links_len c.deref-5.ensures.value c.in_default.ensures.1
 
 pub index_mut-requires : goal.index_mut-requires
 index_mut-requires g c =
     let frame = rw (← c.self.view_is) at c.requires.frame in
-    let d = c.in_default.ensures in
-    let q = g.S.Shape.constants.quota in
-    rw (c.QUOTA-2.ensures, q) (omega (arith, lane_room c.args.lane g.S.Shape.sizes.lanes g.S.Shape.sizes.quota c.index-made.result.now (length c.args.kinds.now) frame.in_range (omega (arith, d.1, c.QUOTA.ensures, q, c.requires.some)), c.self.invariant.shows.units.sizes_len, c.requires.some, c.self.inside.sizes.ok.0))
+    let stack = pops c.self.invariant.shows.free _ _ _ _ _ _ frame.in_range c.index-spare.ensures
+    (c.QUOTA.ensures ∙ g.S.Shape.constants.quota) c.self.invariant.shows.units.sizes_len c.deref.ensures.value c.in_default.ensures.1 in
+    omega (arith, stack.places 0 c.requires.some, c.popped-head.ensures, c.self.inside.sizes.ok.0)
 
 pub index_mut-requires-2 : goal.index_mut-requires-2
 index_mut-requires-2 g c =
     let frame = rw (← c.self.view_is) at c.requires.frame in
+    let stack = pops c.self.invariant.shows.free _ _ _ _ _ _ frame.in_range c.index-spare.ensures
+    (c.QUOTA.ensures ∙ g.S.Shape.constants.quota) c.self.invariant.shows.work.marked_len c.deref.ensures.value c.in_default.ensures.1 in
+    omega (arith, stack.places 0 c.requires.some, c.popped-head.ensures, c.self.inside.marked.ok.0)
+
+pub answer-requires-clause-room : goal.answer-requires-clause-room
+answer-requires-clause-room g c =
+    let frame = rw (← c.self.view_is) at c.requires.frame in
+    (pops c.self.invariant.shows.free _ _ _ _ _ _ frame.in_range c.index-spare.ensures
+    (c.QUOTA.ensures ∙ g.S.Shape.constants.quota) refl c.deref-6.ensures.value c.in_default.ensures.1).room
+
+-- what the calls before the last one have written
+creation : (g : Over) (c : goal.After-out-1 g) → Creation g.S.Shape.sizes (record {
+  names = c.self.inside.names.items;
+  firsts = c.self.inside.firsts.items;
+  sizes = c.self.inside.sizes.items;
+  next = c.self.inside.next.items;
+  lives = c.self.inside.lives.items;
+  roots = c.self.inside.roots.items;
+  marked = c.self.inside.marked.items;
+  work = c.self.inside.work.items;
+  scanned = c.self.inside.scanned;
+  pushed = c.self.inside.pushed;
+  free = c.self.inside.free.items;
+  spare = c.self.inside.spare.items;
+  made = c.self.inside.made.items;
+  frames = c.self.inside.frames.items;
+  phase = c.self.inside.phase;
+  left = c.self.inside.left;
+  swept = c.self.inside.swept;
+}) c.self.inside.diary c.args.lane c.index-made.result.now c.args.kinds.now c.place.new.names.items c.fill_popped.new.items.items c.link.new.next.items c.fill_popped-2.new.items.items
+creation g c =
+    let frame = rw (← c.self.view_is) at c.requires.frame in
+    let s = c.self.invariant.shows in
     let d = c.in_default.ensures in
-    let q = g.S.Shape.constants.quota in
-    rw (c.QUOTA-2.ensures, q) (omega (arith, lane_room c.args.lane g.S.Shape.sizes.lanes g.S.Shape.sizes.quota c.index-made.result.now (length c.args.kinds.now) frame.in_range (omega (arith, d.1, c.QUOTA.ensures, q, c.requires.some)), c.self.invariant.shows.work.marked_len, c.requires.some, c.self.inside.marked.ok.0))
+    let k = g.S.Shape.constants in
+    let now = spare_read s.free _ _ frame.in_range c.index-spare.ensures in
+    record {
+      was = c.self.invariant;
+      lane = frame.in_range;
+      opened = frame.opened;
+      is = c.index-made.ensures ∙ s.names.counts.each c.args.lane c.index-made.result.now frame.in_range;
+      some = c.requires.some;
+      few = c.requires.few;
+      lawful = c.requires.lawful;
+      names_left = omega (arith, d.0, c.NAMES.ensures, k.names, c.requires.some);
+      room = omega (arith, d.1, now);
+      by_name = rw (c.deref-2.ensures.value, c.QUOTA.ensures, k.quota, now) at c.place.ensures;
+      by_first = rw (c.popped-head.ensures, c.deref.ensures.value, c.deref-3.ensures.value, c.QUOTA.ensures, k.quota, now) at c.fill_popped.ensures;
+      by_life = rw (c.deref-4.ensures.value, c.QUOTA.ensures, k.quota, now) at c.fill_popped-2.ensures;
+      by_next = rw (c.deref-5.ensures.value, c.QUOTA.ensures, k.quota, now) at c.link.ensures;
+    }
 
 pub invariant_of-self-2 : goal.invariant_of-self-2
 invariant_of-self-2 g c =
-    let frame = rw (← c.self.view_is) at c.requires.frame in
-    let d = c.in_default.ensures in
-    let k = g.S.Shape.constants in
-    let is : c.index-made.result.now ≡ made (after c.self.inside.diary) c.args.lane = c.index-made.ensures ∙ c.self.invariant.shows.names.counts.each c.args.lane c.index-made.result.now frame.in_range in
-    rw (c.make.ensures, c.QUOTA-2.ensures, k.quota) (creates _ _ _ _ _ _ _ _ _ c.self.invariant frame.in_range frame.opened is c.requires.some c.requires.few c.requires.lawful
-    (omega (arith, d.0, c.NAMES.ensures, k.names, c.requires.some)) (omega (arith, d.1, c.QUOTA.ensures, k.quota, c.requires.some))
-    (rw (c.QUOTA-2.ensures, k.quota) at c.place.ensures) (rw (c.QUOTA-2.ensures, k.quota) at c.fill.ensures) (rw (c.QUOTA-2.ensures, k.quota) at c.fill-2.ensures))
+    let now = spare_read c.self.invariant.shows.free _ _ (creation g c).lane c.index-spare.ensures in
+    rw (c.make.ensures, c.popped-head.ensures, c.deref.ensures.value, c.QUOTA.ensures, g.S.Shape.constants.quota, now) (creates (creation g c))
 
 pub returns-clause-entries : goal.returns-clause-entries
-returns-clause-entries g c =
-    let frame = rw (← c.self.view_is) at c.requires.frame in
-    let d = c.in_default.ensures in
-    let k = g.S.Shape.constants in
-    let is : c.index-made.result.now ≡ made (after c.self.inside.diary) c.args.lane = c.index-made.ensures ∙ c.self.invariant.shows.names.counts.each c.args.lane c.index-made.result.now frame.in_range in
-    rw (← c.self.view_is, ← is) (appends_one _ _ _ _ _ refl c.make.ensures (rw c.make.ensures (creates _ _ _ _ _ _ _ _ _ c.self.invariant frame.in_range frame.opened is c.requires.some c.requires.few c.requires.lawful
-    (omega (arith, d.0, c.NAMES.ensures, k.names, c.requires.some)) (omega (arith, d.1, c.QUOTA.ensures, k.quota, c.requires.some))
-    (rw (c.QUOTA-2.ensures, k.quota) at c.place.ensures) (rw (c.QUOTA-2.ensures, k.quota) at c.fill.ensures) (rw (c.QUOTA-2.ensures, k.quota) at c.fill-2.ensures)).legal))
+returns-clause-entries g c = rw (← c.self.view_is, ← (creation g c).is) (appends_one _ _ _ _ _ refl c.make.ensures (invariant_of-self-2 g c).legal)
 
 pub returns-clause-names : goal.returns-clause-names
 returns-clause-names g c =
-    let frame = rw (← c.self.view_is) at c.requires.frame in
-    let is : c.index-made.result.now ≡ made (after c.self.inside.diary) c.args.lane = c.index-made.ensures ∙ c.self.invariant.shows.names.counts.each c.args.lane c.index-made.result.now frame.in_range in
-    rw (← c.self.view_is, ← is) (names_of_row c.args.lane (c.index-made.result.now + 1) c.args.kinds.now c.answer.new.out (omega (arith, c.answer.ensures.len, c.requires.room))
+    rw (← c.self.view_is, ← (creation g c).is) (names_of_row c.args.lane (c.index-made.result.now + 1) c.args.kinds.now c.answer.new.out (omega (arith, c.answer.ensures.len, c.requires.room))
     (λ k d below. ap (λ (r : Ref). r.name) (from_start c.answer.ensures k d (omega (arith, c.answer.ensures.len)))))
 
 pub returns-clause-given : goal.returns-clause-given
-returns-clause-given g c =
-    let frame = rw (← c.self.view_is) at c.requires.frame in
-    let d = c.in_default.ensures in
-    let k = g.S.Shape.constants in
-    let is : c.index-made.result.now ≡ made (after c.self.inside.diary) c.args.lane = c.index-made.ensures ∙ c.self.invariant.shows.names.counts.each c.args.lane c.index-made.result.now frame.in_range in
-    λ i other below.
+returns-clause-given g c = λ i other below.
+    let now = spare_read c.self.invariant.shows.free _ _ (creation g c).lane c.index-spare.ensures in
     let there = from_start c.answer.ensures i other (omega (arith, c.answer.ensures.len)) in
-    rw (c.make.ensures, there, c.QUOTA-2.ensures, k.quota) (new_held _ _ _ _ _ _ _ _ _ c.self.invariant frame.in_range frame.opened is c.requires.some c.requires.few c.requires.lawful
-    (omega (arith, d.0, c.NAMES.ensures, k.names, c.requires.some)) (omega (arith, d.1, c.QUOTA.ensures, k.quota, c.requires.some))
-    (rw (c.QUOTA-2.ensures, k.quota) at c.place.ensures) (rw (c.QUOTA-2.ensures, k.quota) at c.fill.ensures) (rw (c.QUOTA-2.ensures, k.quota) at c.fill-2.ensures) i (omega (arith, c.answer.ensures.len, c.requires.room)))
+    rw (c.make.ensures, there, c.deref-6.ensures.value, c.QUOTA.ensures, g.S.Shape.constants.quota, now) (new_held (creation g c) i (omega (arith, c.answer.ensures.len, c.requires.room)))
 
 pub returns-clause-held : goal.returns-clause-held
-returns-clause-held g c =
-    let frame = rw (← c.self.view_is) at c.requires.frame in
-    let d = c.in_default.ensures in
-    let k = g.S.Shape.constants in
-    let is : c.index-made.result.now ≡ made (after c.self.inside.diary) c.args.lane = c.index-made.ensures ∙ c.self.invariant.shows.names.counts.each c.args.lane c.index-made.result.now frame.in_range in
-    rw (← c.self.view_is, c.make.ensures) (still_held _ _ _ _ _ _ _ _ _ c.self.invariant frame.in_range frame.opened is c.requires.some c.requires.few c.requires.lawful
-    (omega (arith, d.0, c.NAMES.ensures, k.names, c.requires.some)) (omega (arith, d.1, c.QUOTA.ensures, k.quota, c.requires.some))
-    (rw (c.QUOTA-2.ensures, k.quota) at c.place.ensures) (rw (c.QUOTA-2.ensures, k.quota) at c.fill.ensures) (rw (c.QUOTA-2.ensures, k.quota) at c.fill-2.ensures))
+returns-clause-held g c = rw (← c.self.view_is, c.make.ensures) (still_held (creation g c))

@@ -5,6 +5,24 @@ use Rattle.heap_plain.specs.Parts.{first_at}
 use Rattle.heap_plain.proofs.RootSteps.{must, need_not, index_below, has_room, roots_plain, roots_held, roots_shaded, shaded_held}
 use Rattle.heap_plain.proofs.heap.PlainHeapEngine.set_root.Goals as goal
 
+pub index-requires : goal.index-requires
+index-requires g c =
+    let frame = rw (← c.self.view_is) at c.requires.frame in
+    let held = rw (← c.self.view_is) at c.requires.at in
+    let s = c.self.invariant.shows in
+    let below = index_below _ _ _ _ _ c.self.invariant frame.in_range frame.opened held in
+    let head : c.index-head.result.now ≡ first_at c.self.inside.firsts.items c.args.at.index = get_or_read c.self.inside.firsts.items _ _ (omega (arith, below, s.units.firsts_len)) c.index-head.ensures 0 in
+    omega (arith, head, s.units.in_range c.args.at.index, s.work.marked_len, c.self.inside.marked.ok.0)
+
+pub index_mut-requires : goal.index_mut-requires
+index_mut-requires g c =
+    let frame = rw (← c.self.view_is) at c.requires.frame in
+    let held = rw (← c.self.view_is) at c.requires.at in
+    let s = c.self.invariant.shows in
+    let below = index_below _ _ _ _ _ c.self.invariant frame.in_range frame.opened held in
+    let head : c.index-head.result.now ≡ first_at c.self.inside.firsts.items c.args.at.index = get_or_read c.self.inside.firsts.items _ _ (omega (arith, below, s.units.firsts_len)) c.index-head.ensures 0 in
+    omega (arith, head, s.units.in_range c.args.at.index, s.work.marked_len, c.self.inside.marked.ok.0)
+
 pub index_mut-requires-then-must_mark : goal.index_mut-requires-then-must_mark
 index_mut-requires-then-must_mark g c =
     let frame = rw (← c.self.view_is) at c.requires.frame in
