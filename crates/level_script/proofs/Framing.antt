@@ -224,6 +224,7 @@ record Good (limits : Limits) (c : Context) : Type 0 where
   lanes : length c.lanes ≡ limits.lanes
   now : frames_through (replicate limits.lanes false) c.lines ≡ map (λ lane. lane.opened) c.lanes
   framed : (vars : List ℕ) (classes : ℕ) → Within c.lanes vars → length c.classes ≤ classes → are_framed vars classes (replicate limits.lanes false) c.lines ≡ true
+  some : 0 < length c.classes
 
 -- a context with other lanes
 abbrev changed : Context → List LaneNames → Context
@@ -244,6 +245,7 @@ good_push limits c lanes number by command g same frames grow fit =
           framed_more vars classes (replicate limits.lanes false) c.lines line
           (g.framed vars classes (λ l. omega (arith, grow l, within l)) few)
           (ap (λ f. fits vars classes f by command) g.now ∙ fit vars classes within few);
+      some = g.some;
     }
 
 -- an item that is there
@@ -305,7 +307,7 @@ added_grows classes more line name (Ok parent) e =
 good_classes : (limits : Limits) (c next : Context) (r : Result (List Class) SchemaErr) → Good limits c → ((more : List Class) → r ≡ Ok more → length c.classes ≤ length more) → with_classes c r ≡ Ok next → Good limits next
 good_classes limits c next (Err refusal) g grows e = err_ok e
 good_classes limits c next (Ok more) g grows e =
-    subst (Good limits) (ok_same e) (record { lanes = g.lanes; now = g.now; framed = λ vars count within few. g.framed vars count within (omega (arith, grows more refl, few)) })
+    subst (Good limits) (ok_same e) (record { lanes = g.lanes; now = g.now; framed = λ vars count within few. g.framed vars count within (omega (arith, grows more refl, few)); some = omega (arith, grows more refl, g.some) })
 
 -- ---- whole inputs
 
@@ -357,13 +359,14 @@ closed_copies (suc n) = ap (λ fs. false ∷ fs) (closed_copies n)
 -- it is so before the first line
 good_start : (limits : Limits) → Good limits (start limits)
 unfolding frames_through are_framed
-good_start limits = record { lanes = length_copies limits.lanes; now = closed_copies limits.lanes; framed = λ vars classes within few. refl }
+good_start limits = record { lanes = length_copies limits.lanes; now = closed_copies limits.lanes; framed = λ vars classes within few. refl; some = omega arith }
 
 -- the script of such a context can be played
 good_script : (limits : Limits) (c : Context) → Good limits c → IsPlayable limits (script_from c)
 good_script limits c g = record {
   lanes = rw length-map g.lanes;
   framed = g.framed (map count_of c.lanes) (length c.classes) (λ l. let same : get_or (map count_of c.lanes) l 0 ≡ count_of (get_or c.lanes l closed_lane) = get_or-map count_of c.lanes l closed_lane in omega (arith, same)) (omega arith);
+  classes = g.some;
 }
 
 -- so can each script of lines

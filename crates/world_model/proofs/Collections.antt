@@ -25,7 +25,7 @@ is_marking _ = false
 abbrev pub AllMark : List Entry → Type 0
 AllMark entries = AllByRecursion (λ e. IsTrue (is_marking e.act)) entries
 
-all_append : (xs ys : List Entry) → AllMark xs → AllMark ys → AllMark (xs ++ ys)
+pub all_append : (xs ys : List Entry) → AllMark xs → AllMark ys → AllMark (xs ++ ys)
 all_append [] ys g h = h
 all_append (x ∷ xs) ys g h = (g.0, all_append xs ys g.1 h)
 
@@ -44,7 +44,7 @@ slice_marks s marker budget reply acts h =
     (subst AllMark (sym (by-append (Marker marker) (act.SliceOpen ∷ h.notes) (act.Slice budget reply ∷ [])))
     (all_append (by (Marker marker) (act.SliceOpen ∷ h.notes)) (by (Marker marker) (act.Slice budget reply ∷ [])) (refl, notes_mark (Marker marker) h.notes h.only) (refl, tt)))
 
-slices_mark : (s : State) (budget : ℕ) (slices : List (List Act)) → SlicesUntilIdle s budget slices → AllMark (flat_map (by (Marker 0)) slices)
+pub slices_mark : (s : State) (budget : ℕ) (slices : List (List Act)) → SlicesUntilIdle s budget slices → AllMark (flat_map (by (Marker 0)) slices)
 slices_mark s budget [] h = tt
 slices_mark s budget (last ∷ []) h = all_append (by (Marker 0) last) [] (slice_marks s 0 budget _ last h.1) tt
 slices_mark s budget (acts ∷ next ∷ rest) h = all_append (by (Marker 0) acts) _ (slice_marks s 0 budget _ acts h.1) (slices_mark (run s (by (Marker 0) acts)) budget (next ∷ rest) h.2)

@@ -10,3 +10,5 @@ pub mod Worked
 pub mod Busy
 pub mod Refused
 pub mod Progress
+pub mod Rounds
+pub mod Queues

@@ -113,3 +113,18 @@ all_contain P (x ∷ xs) all y h = go (all_contain P xs all.1 y) (Contains-cons 
     go : (Contains xs y → P y) → (x ≡ y) ⊎ Contains xs y → P y
     go rest (inl e) = subst P e all.0
     go rest (inr k) = rest k
+
+-- ---- some element
+
+pub among_test : {A : Type 0} (q : A → Bool) (xs : List A) (x : A) → Among xs x → q x ≡ true → list_any q xs ≡ true
+among_test q [] x h e = absurd h
+among_test q (y ∷ xs) x (inl same) e = let t : q y ≡ true = ap q same ∙ e in rw t refl
+among_test q (y ∷ xs) x (inr h) e = or_right (q y) _ (among_test q xs x h e)
+
+pub test_among : {A : Type 0} (q : A → Bool) (xs : List A) → list_any q xs ≡ true → (x : A) × Among xs x × (q x ≡ true)
+test_among q [] h = absurd cc
+test_among {A} q (y ∷ xs) h = go (test_among q xs) (or_true (q y) (list_any q xs) h)
+  where
+    go : (list_any q xs ≡ true → (x : A) × Among xs x × (q x ≡ true)) → (q y ≡ true) ⊎ (list_any q xs ≡ true) → (x : A) × Among (y ∷ xs) x × (q x ≡ true)
+    go rest (inl e) = (y, inl refl, e)
+    go rest (inr e) = let r = rest e in (r.0, inr r.1, r.2)

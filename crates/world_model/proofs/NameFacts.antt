@@ -1,10 +1,10 @@
 -- Names, units and functions with one value changed.
-use Rattle.std.proofs.Common.{◌≡◌, ℕ, ◌+◌, ◌<◌, ◌≤◌, refl, sym, subst, ap, ◌∙◌, inl, inr, arith, Bool, cond, true, false, ◌||◌, ◌==◌, List, [], ◌∷◌, length, Some, unwrap_or, ◌⊎◌}
+use Rattle.std.proofs.Common.{◌≡◌, ℕ, ◌+◌, ◌<◌, ◌≤◌, refl, sym, subst, ap, ◌∙◌, inl, inr, arith, Bool, cond, true, false, ◌||◌, ◌==◌, List, [], ◌∷◌, ◌++◌, length, Some, unwrap_or, ◌⊎◌}
 use Rattle.std.specs.List.{list_any, find}
 use Rattle.std.proofs.lemmas.Bool.{eqb-true, eq-eqb}
 use Rattle.world_model.specs.Types.{Name, Kind}
-use Rattle.world_model.specs.NameLists.{same_name, has, names_from, set_at}
-use Rattle.world_model.proofs.ListFacts.{and_true, or_true, or_right, Among}
+use Rattle.world_model.specs.NameLists.{same_name, has, members, names_from, set_at}
+use Rattle.world_model.proofs.ListFacts.{and_true, or_true, or_right, Among, among_append, among_test, test_among}
 
 pub same_name_true : (a b : Name) → same_name a b ≡ true → a ≡ b
 same_name_true a b h =
@@ -71,3 +71,19 @@ found_unit (u ∷ units) n h = go (has u n) refl (found_unit units n) h
         → Among (u ∷ units) (unwrap_or (cond b (Some u) (find (λ v. has v n) units)) []) × (has (unwrap_or (cond b (Some u) (find (λ v. has v n) units)) []) n ≡ true)
     go true e rest h = (inl refl, e)
     go false e rest h = let r = rest h in (inr r.0, r.1)
+
+-- ---- membership by test
+
+pub has_among : (names : List Name) (n : Name) → has names n ≡ true → Among names n
+has_among names n h = let found = test_among (same_name n) names h in subst (λ (m : Name). Among names m) (sym (same_name_true n found.0 found.2)) found.1
+
+pub among_has : (names : List Name) (n : Name) → Among names n → has names n ≡ true
+among_has names n h = among_test (same_name n) names n h (same_name_refl n)
+
+pub among_members : (units : List (List Name)) (n : Name) → Among (members units) n → (u : List Name) × Among units u × (has u n ≡ true)
+among_members [] n h = absurd h
+among_members (u ∷ units) n h = go (among_members units n) (among_append u (members units) n h)
+  where
+    go : (Among (members units) n → (v : List Name) × Among units v × (has v n ≡ true)) → Among u n ⊎ Among (members units) n → (v : List Name) × Among (u ∷ units) v × (has v n ≡ true)
+    go rest (inl a) = (u, inl refl, among_has u n a)
+    go rest (inr b) = let r = rest b in (r.0, inr r.1, r.2)

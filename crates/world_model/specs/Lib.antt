@@ -17,7 +17,8 @@ pub mod CollectorSteps
 -- legal histories, and the entries of one call while nothing else runs
 pub mod Histories
 pub mod Calls
--- the words of an engine's contract
+-- the words of the hooks, and of an engine's contract
+pub mod Hooks
 pub mod Engines
 -- laws, and histories that are legal or refused
 pub mod Laws

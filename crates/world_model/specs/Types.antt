@@ -29,3 +29,5 @@ pub use Rattle.world_model.specs.declared.reply.Collected.{Collected}
 pub use Rattle.world_model.specs.declared.act.Act.{Act}
 pub use Rattle.world_model.specs.declared.act.Act.TheVariants as act
 pub use Rattle.world_model.specs.declared.act.Entry.{Entry}
+pub use Rattle.world_model.specs.declared.hooks.HookCall.{HookCall}
+pub use Rattle.world_model.specs.declared.hooks.HookCall.TheVariants as called

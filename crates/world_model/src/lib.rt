@@ -5,14 +5,15 @@
 //! engine keeps its history at the price of one store an entry.
 //!
 //! The definitions stand in `specs/`, in the order in which `specs/Lib.antt` lists them, and make a
-//! text of their own. The layers above use the types, [`Shape`], [`Engine`], [`Diary`] and the
-//! laws of [`laws`]; nothing here knows an array, a mark bit or a word.
+//! text of their own. The layers above use the types, [`Shape`], [`Engine`], [`Hooks`], [`Diary`]
+//! and the laws of [`laws`]; nothing here knows an array, a mark bit or a word.
 #![tactic(auto)]
 
 mod act;
 mod diary;
 mod engine;
 pub mod examples;
+mod hooks;
 mod kind;
 pub mod laws;
 mod list;
@@ -26,6 +27,7 @@ mod tests;
 pub use act::{Act, Entry};
 pub use diary::Diary;
 pub use engine::Engine;
+pub use hooks::{HookCall, Hooks, MemHooks};
 pub use kind::{ClassId, Kind, Ready};
 pub use list::{Kinds, Names, Sequence};
 pub use name::{Name, Ref, Weak};

@@ -1,8 +1,10 @@
-//! What no clause says: that calls succeed with ample memory, what is printed, and how names sort.
+//! What no clause says: that calls succeed with ample memory, what is printed, how names sort, and
+//! what hooks in memory keep.
 
 use crate::{
-    Act, Begin, ClassId, Commit, Diary, Entry, Kind, Kinds, Level, MarkStop, Marked, Name, Names,
-    Pass, Phase, Purged, Ready, Sequence, Shape, Small, SweepStop, Swept, Weak,
+    Act, Begin, ClassId, Commit, Diary, Entry, HookCall, Hooks, Kind, Kinds, Level, MarkStop,
+    Marked, MemHooks, Name, Names, Pass, Phase, Purged, Ready, Sequence, Shape, Small, SweepStop,
+    Swept, Weak,
 };
 use std::test::Fail;
 
@@ -109,6 +111,80 @@ fn entries_are_compared_and_copied(rt: HostRuntime) -> Result<(), Fail> {
     let last: Names = Sequence::from_vec(vec![in alloc; name(0, 1), name(3, 2)]?);
     assert_eq!(rt; last.as_slice(), [name(0, 1), name(3, 2)].as_slice());
     Ok(())
+}
+
+/// Destroys an object that is asked twice, and gives the answers.
+fn destroy<D: Hooks>(hooks: &mut D, name: Name, class: ClassId) -> (bool, bool) {
+    hooks.begin(name, class);
+    let early = hooks.ready(name, class, 1);
+    let late = hooks.ready(name, class, 2);
+    hooks.finish(name, class);
+    (early, late)
+}
+
+fn asked(name: Name, class: ClassId, poll: u32, answer: bool) -> HookCall {
+    HookCall::Ready {
+        name,
+        class,
+        poll,
+        answer,
+    }
+}
+
+#[test]
+fn hooks_in_memory_tell_their_calls(rt: HostRuntime) {
+    let (one, two) = (name(0, 1), name(1, 7));
+    let (door, lift) = (ClassId(0), ClassId(4095));
+    let mut hooks = MemHooks::new(1);
+    assert_eq!(rt; hooks.calls().len(), 0);
+    assert_eq!(rt; destroy(&mut hooks, one, door), (false, true));
+    assert_eq!(rt; destroy(&mut hooks, two, lift), (false, true));
+    let told = [
+        HookCall::Begin {
+            name: one,
+            class: door,
+        },
+        asked(one, door, 1, false),
+        asked(one, door, 2, true),
+        HookCall::Finish {
+            name: one,
+            class: door,
+        },
+        HookCall::Begin {
+            name: two,
+            class: lift,
+        },
+        asked(two, lift, 1, false),
+        asked(two, lift, 2, true),
+        HookCall::Finish {
+            name: two,
+            class: lift,
+        },
+    ];
+    assert_eq!(rt; hooks.calls(), told.as_slice());
+}
+
+#[test]
+fn hooks_in_memory_answer_by_their_wait(rt: HostRuntime) {
+    let one = name(0, 1);
+    let mut at_once = MemHooks::new(0);
+    assert_eq!(rt; destroy(&mut at_once, one, ClassId(2)), (true, true));
+    let mut never = MemHooks::new(4294967295);
+    assert_eq!(rt; destroy(&mut never, one, ClassId(2)), (false, false));
+}
+
+#[test]
+fn hooks_in_memory_keep_the_first_calls(rt: HostRuntime) {
+    let mut hooks = MemHooks::new(100);
+    for poll in 1..1031 {
+        let _ = hooks.ready(name(0, 1), ClassId(3), poll);
+    }
+    let calls = hooks.calls();
+    assert_eq!(rt; calls.len(), 1024);
+    for (i, call) in calls.iter().enumerate() {
+        let poll = i as u32 + 1;
+        assert!(rt; *call == asked(name(0, 1), ClassId(3), poll, poll > 100));
+    }
 }
 
 #[test]
