@@ -64,9 +64,9 @@ may_refuse z p h (begin.Frames n) was m other =
 
 pub refuses_begin : (z : Sizes) (p : Parts) (h : List Entry) (reply : Begin) → IsPlain z p h → MayStart p.phase p.left (count_by (λ is_open. is_open) p.frames) reply → starts reply ≡ false → IsPlain z p (h ++ record { pass = Collector; act = act.BeginGc reply } ∷ [])
 refuses_begin z p h begin.Started was m other = absurd cc
-refuses_begin z p h (begin.Running at) was m other = plain_more z p p h (record { pass = Collector; act = act.BeginGc (begin.Running at) } ∷ []) was (may_refuse z p h _ was m other, tt) (quiet_shows z p (state_of h) _ _ _ refl was.shows)
-refuses_begin z p h (begin.Purging n) was m other = plain_more z p p h (record { pass = Collector; act = act.BeginGc (begin.Purging n) } ∷ []) was (may_refuse z p h _ was m other, tt) (quiet_shows z p (state_of h) _ _ _ refl was.shows)
-refuses_begin z p h (begin.Frames n) was m other = plain_more z p p h (record { pass = Collector; act = act.BeginGc (begin.Frames n) } ∷ []) was (may_refuse z p h _ was m other, tt) (quiet_shows z p (state_of h) _ _ _ refl was.shows)
+refuses_begin z p h (begin.Running at) was m other = plain_more z p p h (record { pass = Collector; act = act.BeginGc (begin.Running at) } ∷ []) was (may_refuse z p h _ was m other, tt) (quiet_shows z p (state_of h) _ _ _ refl refl refl was.shows)
+refuses_begin z p h (begin.Purging n) was m other = plain_more z p p h (record { pass = Collector; act = act.BeginGc (begin.Purging n) } ∷ []) was (may_refuse z p h _ was m other, tt) (quiet_shows z p (state_of h) _ _ _ refl refl refl was.shows)
+refuses_begin z p h (begin.Frames n) was m other = plain_more z p p h (record { pass = Collector; act = act.BeginGc (begin.Frames n) } ∷ []) was (may_refuse z p h _ was m other, tt) (quiet_shows z p (state_of h) _ _ _ refl refl refl was.shows)
 
 pub refuses_begin_call : (h : List Entry) (reply : Begin) → starts reply ≡ false → CallOf (state_of h) Collector (act.BeginGc reply) (act.BeginGc reply ∷ [])
 refuses_begin_call h begin.Started other = absurd cc
@@ -113,6 +113,8 @@ pub record KeepRun (z : Sizes) (names : List (Option Name)) (firsts sizes links 
   pub world : (run s (by Collector (map act.Kept of))).world ≡ s.world
   pub frames : (run s (by Collector (map act.Kept of))).frames ≡ s.frames
   pub agreed : (run s (by Collector (map act.Kept of))).collector.agreed ≡ None
+  pub asked : (run s (by Collector (map act.Kept of))).collector.asked ≡ s.collector.asked
+  pub steps : (run s (by Collector (map act.Kept of))).collector.steps ≡ 0
   pub marks : MarksShow names firsts sizes links lives s.world.units marked listed grey (run s (by Collector (map act.Kept of))).marks.kept (run s (by Collector (map act.Kept of))).marks.fresh (run s (by Collector (map act.Kept of))).marks.scanned
   pub roots : AllByRecursion (λ n. IsRootUnit (graph s.world) (unit_of s.world n)) of
 
@@ -134,18 +136,20 @@ root_at {names} {lives} {roots} {rooted} ns rs i e = go (name_at names i) refl
 
 pub keep_run : (z : Sizes) (names : List (Option Name)) (firsts sizes links : List ℕ) (lives : List Life) (made : List ℕ) (roots : List Bool) (s : State) (earlier : List World) (marked : List Bool) (listed grey heads : List ℕ) (count : ℕ)
     → AreApart s.world.kinds s.world.units → NamesShow z names made s.world.kinds → UnitsShow z names firsts sizes links lives s.world.units → RootsShow z names lives roots s.world.rooted s.world.cell s.world.strong
-    → s.world.phase ≡ Marking → s.collector.started ≡ true → s.collector.agreed ≡ None → s.marks.moments ≡ s.world ∷ earlier → length marked ≡ item_count z
+    → s.world.phase ≡ Marking → s.collector.started ≡ true → s.collector.agreed ≡ None → s.collector.steps ≡ 0 → s.marks.moments ≡ s.world ∷ earlier → length marked ≡ item_count z
     → MarksShow names firsts sizes links lives s.world.units marked listed grey s.marks.kept s.marks.fresh s.marks.scanned → CanKeep firsts roots count marked heads
     → KeepRun z names firsts sizes links lives (all_set marked heads) (listed ++ heads) (grey ++ heads) s (names_at names heads)
-keep_run z names firsts sizes links lives made roots s earlier marked listed grey [] count apart ns us rs marking started agreed moments len marks can = record {
+keep_run z names firsts sizes links lives made roots s earlier marked listed grey [] count apart ns us rs marking started agreed steps moments len marks can = record {
   legal = tt;
   world = refl;
   frames = refl;
   agreed = agreed;
+  asked = refl;
+  steps = steps;
   marks = rw (append-nil listed, append-nil grey) marks;
   roots = tt;
 }
-keep_run z names firsts sizes links lives made roots s earlier marked listed grey (head ∷ heads) count apart ns us rs marking started agreed moments len marks can =
+keep_run z names firsts sizes links lives made roots s earlier marked listed grey (head ∷ heads) count apart ns us rs marking started agreed steps moments len marks can =
     let r = can.0 in
     let root = root_at ns rs r.0 r.2 in
     let unit = us.each r.0 root.1.life in
@@ -158,7 +162,7 @@ keep_run z names firsts sizes links lives made roots s earlier marked listed gre
     let unit_is : unit_of s.world n ≡ u = unit_of_is s.world.kinds s.world.units u n apart stands.among member.2 in
     let has_root : has u root.0 ≡ true = stands.whole r.0 root.0 root.1 r.3 in
     let is_root : IsRootUnit (graph s.world) (unit_of s.world n) = subst (λ (v : List Name). IsRootUnit (graph s.world) v) (sym unit_is) (root.0, has_root, inl root.2) in
-    let rest = keep_run z names firsts sizes links lives made roots (next s entry) s.marks.moments (set marked head true) (listed ++ head ∷ []) (grey ++ head ∷ []) heads count apart ns us rs marking started refl refl
+    let rest = keep_run z names firsts sizes links lives made roots (next s entry) s.marks.moments (set marked head true) (listed ++ head ∷ []) (grey ++ head ∷ []) heads count apart ns us rs marking started refl refl refl
     (length-set marked head true ∙ len) (mark_one ns us apart head u n stands member.2 can.1 inside marks) can.2 in
     let may : MayBy z s Collector (act.Kept n) = record {
       finishes = agreed;
@@ -173,6 +177,8 @@ keep_run z names firsts sizes links lives made roots s earlier marked listed gre
       world = rest.world;
       frames = rest.frames;
       agreed = rest.agreed;
+      asked = rest.asked;
+      steps = rest.steps;
       marks = rest.marks;
       roots = (is_root, rest.roots);
     } in
@@ -232,7 +238,7 @@ module _ (z : Sizes) (p : Parts) (h new : List Entry) (cleared marked : List Boo
   removals_none = none_of_none _ (sym (left_idle _ _ _ _ s.removed.left_is (sym s.phase ∙ idle)) ∙ none_left)
 
   ran : KeepRun z p.names p.firsts p.sizes p.next p.lives (all_set cleared heads) heads heads s1 of
-  ran = keep_run z p.names p.firsts p.sizes p.next p.lives p.made p.roots s1 [] cleared [] [] heads (length p.roots) (units_apart z h was.legal) s.names s.units s.roots refl refl refl refl (clear.len ∙ s.work.marked_len)
+  ran = keep_run z p.names p.firsts p.sizes p.next p.lives p.made p.roots s1 [] cleared [] [] heads (length p.roots) (units_apart z h was.legal) s.names s.units s.roots refl refl refl refl refl (clear.len ∙ s.work.marked_len)
       (unmarked p.names p.firsts p.sizes p.next p.lives (after h).units cleared all_clear) keeps.can
 
   may_start : MayBy z (state_of h) Collector (act.BeginGc begin.Started)
@@ -244,16 +250,16 @@ module _ (z : Sizes) (p : Parts) (h new : List Entry) (cleared marked : List Boo
   abbrev end : State
   end = run s1 notes
 
-  removed_marking : (left swept looked : ℕ) (removals : List Removal) (found : List Name) → removals ≡ [] → left ≡ length removals → RemovedShow z p.names p.lives left swept (after h).phase removals found looked → RemovedShow z p.names p.lives left swept Marking removals found looked
+  removed_marking : (left swept looked : ℕ) (removals : List Removal) (found : List Name) → removals ≡ [] → left ≡ length removals → RemovedShow z p.names p.lives p.polls left swept (after h).phase removals found looked → RemovedShow z p.names p.lives p.polls left swept Marking removals found looked
   removed_marking left swept looked removals found none count k = record {
     swept_is = k.swept_is;
     swept_few = k.swept_few;
+    polls_len = k.polls_len;
     removed = k.removed;
     gone = k.gone;
     distinct = k.distinct;
-    found_distinct = k.found_distinct;
-    found_are = λ e. absurd cc;
-    are_found = λ e. absurd cc;
+    fresh = λ e. absurd cc;
+    found_is = λ e. absurd cc;
     left_is = count;
     left_few = λ e. absurd cc;
     none_left = λ e. none;
@@ -283,9 +289,16 @@ module _ (z : Sizes) (p : Parts) (h new : List Entry) (cleared marked : List Boo
     idle = λ ne. absurd (ne refl);
     marks = λ e. subst (λ (bits : List Bool). MarksShow p.names p.firsts p.sizes p.next p.lives (after h).units bits heads heads end.marks.kept end.marks.fresh end.marks.scanned) (sym keeps.bits) ran.marks;
     roots_marked = λ e i r. keeps.each i (bit_below p.roots i r) r;
+    classes = s.classes;
     removed = removed_marking _ _ _ _ _ removals_none (left_idle _ _ _ _ s.removed.left_is (sym s.phase ∙ idle)) s.removed;
+    gone = s.gone;
+    order = s.order;
+    gathers = λ e. absurd cc;
+    queue = λ e. absurd cc;
     free = s.free;
     none_agreed = ran.agreed;
+    none_asked = λ ne. ran.asked;
+    no_steps = ran.steps;
   }
 
   same_end : record end { world = s1.world; frames = s1.frames } ≡ end

@@ -1,5 +1,5 @@
 -- An empty world.
-use Rattle.std.proofs.Common.{◌≡◌, ◌≢◌, ℕ, ◌+◌, ◌-◌, ◌*◌, ◌<◌, ◌≤◌, false, [], get_or, replicate, refl, sym, subst, ap, ◌∙◌, arith, Option, Some, None}
+use Rattle.std.proofs.Common.{◌≡◌, ◌≢◌, ℕ, ◌+◌, ◌-◌, ◌*◌, ◌<◌, ◌≤◌, true, false, [], get_or, replicate, refl, sym, subst, ap, ◌∙◌, arith, Option, Some, None}
 use Rattle.std.proofs.Math.Nat.{mul-le-mul}
 use Rattle.std.proofs.Math.Logic.{dite}
 use Rattle.std.proofs.Math.Decide.{dec_le}
@@ -7,11 +7,13 @@ use Rattle.std.proofs.Math.Nat.{lt_of_not-le}
 use Rattle.std.proofs.lemmas.List.{get_or-replicate, get_or_past, length-replicate}
 use Rattle.std.proofs.lemmas.List.Folds.{sum_by-replicate}
 use Rattle.world_model.specs.Sizes.{Sizes, IsLawful, item_count}
+use Rattle.world_model.proofs.Queues.{queue_start}
 use Rattle.heap_plain.specs.Types.{Name, Idle}
+use Rattle.heap_plain.specs.declared.life.Life.{Life}
 use Rattle.heap_plain.specs.declared.life.Life.TheVariants.{Free, Live}
-use Rattle.heap_plain.specs.Parts.{Parts, Lists, name_at, life_at}
+use Rattle.heap_plain.specs.Parts.{Parts, Lists, name_at, life_at, is_gone}
 use Rattle.heap_plain.specs.Stacks.{full_stacks}
-use Rattle.heap_plain.specs.Sections.{rooted_at, FreeShows, free_at, spare_at}
+use Rattle.heap_plain.specs.Sections.{rooted_at, gone_world, FreeShows, free_at, spare_at}
 use Rattle.heap_plain.specs.Plain.{IsPlain}
 use Rattle.heap_plain.proofs.Stacking.{length-full_stacks, get_or-full_stacks}
 
@@ -22,6 +24,7 @@ new_parts lanes quota = record {
   firsts = replicate (lanes * quota) 0;
   sizes = replicate (lanes * quota) 0;
   next = replicate (lanes * quota) 0;
+  classes = replicate (lanes * quota) (record { 0 = 0 });
   lives = replicate (lanes * quota) Free;
   roots = replicate (lanes * quota) false;
   marked = replicate (lanes * quota) false;
@@ -35,6 +38,14 @@ new_parts lanes quota = record {
   phase = Idle;
   left = 0;
   swept = 0;
+  order = replicate (lanes * quota) 0;
+  listed = 0;
+  begun = 0;
+  from = 0;
+  kept = 0;
+  polls = replicate (lanes * quota) 0;
+  waiting = replicate (lanes * quota) 0;
+  done = None;
 }
 
 -- one value many times is that value everywhere, and past the end
@@ -54,6 +65,9 @@ none_live n i e = let free : life_at (replicate n Free) i ≡ Free = same_everyw
 
 none_used : (n i : ℕ) → life_at (replicate n Free) i ≢ Free → ⊥
 none_used n i ne = ne (same_everywhere n i Free)
+
+none_gone : (n i : ℕ) → is_gone (life_at (replicate n Free) i) ≡ true → ⊥
+none_gone n i e = let free : life_at (replicate n Free) i ≡ Free = same_everywhere n i Free in let gone : is_gone Free ≡ true = subst (λ (x : Life). is_gone x ≡ true) free e in cc
 
 some_items : (z : Sizes) → IsLawful z → 0 < item_count z
 some_items z lawful = omega (arith, mul-le-mul lawful.some_lanes lawful.some_quota)
@@ -120,21 +134,28 @@ begins z lawful = record {
     idle = λ ne. refl;
     marks = λ e. absurd cc;
     roots_marked = λ e. absurd cc;
+    classes = record { len = length-replicate _ _; each = λ i n e. absurd (no_name _ i n e) };
     removed = record {
       swept_is = refl;
       swept_few = omega arith;
+      polls_len = length-replicate _ _;
       removed = λ i n e life. absurd (no_name _ i n e);
       gone = λ r h. absurd h;
       distinct = tt;
-      found_distinct = tt;
-      found_are = λ e. absurd cc;
-      are_found = λ e. absurd cc;
+      fresh = λ e. absurd cc;
+      found_is = λ e. absurd cc;
       left_is = refl;
       left_few = λ e. omega arith;
       none_left = λ e. refl;
     };
+    gone = record { waiting_len = length-replicate _ _; distinct = tt; each = λ i e. absurd (none_gone _ i e); all = λ u n h. absurd h };
+    order = record { len = length-replicate _ _; listed_few = omega arith; begun_few = omega arith; from_few = omega arith; kept_few = omega arith; early = λ e. refl };
+    gathers = λ e. absurd cc;
+    queue = λ e. record { todo = []; ring = []; ready = None; todo_at = tt; ring_at = tt; ready_at = tt; queue = queue_start (gone_world [] [] []) refl refl refl (λ r a. absurd a) (λ n. refl) };
     free = all_free z;
     none_agreed = refl;
+    none_asked = λ ne. refl;
+    no_steps = refl;
   };
 }
 

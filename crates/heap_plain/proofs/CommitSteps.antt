@@ -1,5 +1,5 @@
 -- Committing a collection.
-use Rattle.std.proofs.Common.{◌≡◌, ◌≢◌, ℕ, ◌+◌, ◌-◌, ◌<◌, ◌≤◌, ◌==◌, ◌&&◌, not, refl, sym, subst, ap, ◌∙◌, inl, inr, arith, Bool, cond, true, false, List, [], ◌∷◌, ◌++◌, length, get_or, map, take, filter, count_by, count_ones, Option, Some, None}
+use Rattle.std.proofs.Common.{◌≡◌, ◌≢◌, ℕ, ◌+◌, ◌-◌, ◌<◌, ◌≤◌, ◌==◌, ◌&&◌, ◌||◌, not, refl, sym, subst, ap, ◌∙◌, inl, inr, arith, Bool, cond, true, false, List, [], ◌∷◌, ◌++◌, length, get_or, map, take, filter, count_by, count_ones, Option, Some, None}
 use Rattle.std.specs.List.{sum_by}
 use Rattle.std.proofs.Math.Logic.{dite}
 use Rattle.std.proofs.Math.Decide.{dec_le}
@@ -8,8 +8,8 @@ use Rattle.std.proofs.lemmas.List.{get_or_past, length-drop, length-take-le}
 use Rattle.std.proofs.lemmas.List.Sums.{sum_by-append}
 use Rattle.std.proofs.lemmas.List.Filters.{sum_by-filter_both}
 use Rattle.world_model.specs.Sizes.{Sizes, item_count}
-use Rattle.world_model.specs.NameLists.{has, members}
-use Rattle.world_model.specs.World.{World, Removal}
+use Rattle.world_model.specs.NameLists.{same_name, has, members}
+use Rattle.world_model.specs.World.{World, Removal, Removed as AtRemoved}
 use Rattle.world_model.specs.State.{State, Marks, is_marked, is_grey, grey_in, grey_units, white_units}
 use Rattle.world_model.specs.Reach.{graph, IsUnit, IsRootUnit, IsReached, Walk}
 use Rattle.world_model.specs.CollectorSteps.{CommitMay}
@@ -20,14 +20,15 @@ use Rattle.heap_plain.specs.Types.{Name, Ref, Phase, Idle, Marking, Gathering, C
 use Rattle.heap_plain.specs.Types.act
 use Rattle.heap_plain.specs.Types.commit
 use Rattle.heap_plain.specs.declared.life.Life.{Life}
-use Rattle.heap_plain.specs.declared.life.Life.TheVariants.{Free, Live, Removed}
-use Rattle.heap_plain.specs.Parts.{Parts, Holds, name_at, life_at, first_at}
+use Rattle.heap_plain.specs.declared.life.Life.TheVariants.{Free, Live, Removed, Begun, Finished}
+use Rattle.heap_plain.specs.Parts.{Parts, Holds, name_at, life_at, first_at, is_gone, stage_of}
+use Rattle.heap_plain.specs.Filling.{Filled}
 use Rattle.heap_plain.specs.Notes.{MayEnd, is_done}
 use Rattle.heap_plain.specs.Sweeping.{without, Removes}
-use Rattle.heap_plain.specs.Sections.{Distinct, UnitsShow, StandsAt, LivesAt, RootsShow, rooted_at, HeldShow, RemovedShow, removal_of, FreeShows, free_at, spare_at, grey_of}
+use Rattle.heap_plain.specs.Sections.{Distinct, UnitsShow, StandsAt, LivesAt, RootsShow, rooted_at, HeldShow, RemovedShow, removal_of, removal_at, GoneShow, LiesAt, at_end, FreeShows, free_at, spare_at, grey_of}
 use Rattle.heap_plain.specs.Plain.{Shows, IsPlain}
 use Rattle.heap_plain.proofs.WorldFacts.{has_among, among_left, among_right}
-use Rattle.heap_plain.proofs.Fillings.{Lists-same}
+use Rattle.heap_plain.proofs.Fillings.{Lists-same, from_start}
 use Rattle.heap_plain.proofs.Entries.{plain_more, holds_more}
 use Rattle.heap_plain.proofs.Standing.{name_below}
 use Rattle.heap_plain.proofs.NewNames.{among_members, members_among, distinct_append}
@@ -88,10 +89,10 @@ may_refuse z p h (commit.Frames n) was m other = (sym was.shows.phase ∙ m.0, (
 pub refuses_commit : (z : Sizes) (p : Parts) (h : List Entry) (reply : Commit) → IsPlain z p h → MayEnd p.phase (p.pushed - p.scanned) (count_by (λ is_open. is_open) p.frames) reply → is_done reply ≡ false
     → IsPlain z p (h ++ record { pass = Collector; act = act.CommitGc reply } ∷ [])
 refuses_commit z p h commit.Done was m other = absurd cc
-refuses_commit z p h (commit.NotMarking at) was m other = plain_more z p p h (record { pass = Collector; act = act.CommitGc (commit.NotMarking at) } ∷ []) was (record { finishes = was.shows.none_agreed; may = may_refuse z p h (commit.NotMarking at) was m other }, tt) (quiet_shows z p (state_of h) _ _ _ refl was.shows)
-refuses_commit z p h (commit.Unfinished word bits) was m other = plain_more z p p h (record { pass = Collector; act = act.CommitGc (commit.Unfinished word bits) } ∷ []) was (record { finishes = was.shows.none_agreed; may = may_refuse z p h (commit.Unfinished word bits) was m other }, tt) (quiet_shows z p (state_of h) _ _ _ refl was.shows)
+refuses_commit z p h (commit.NotMarking at) was m other = plain_more z p p h (record { pass = Collector; act = act.CommitGc (commit.NotMarking at) } ∷ []) was (record { finishes = was.shows.none_agreed; may = may_refuse z p h (commit.NotMarking at) was m other }, tt) (quiet_shows z p (state_of h) _ _ _ refl refl refl was.shows)
+refuses_commit z p h (commit.Unfinished word bits) was m other = plain_more z p p h (record { pass = Collector; act = act.CommitGc (commit.Unfinished word bits) } ∷ []) was (record { finishes = was.shows.none_agreed; may = may_refuse z p h (commit.Unfinished word bits) was m other }, tt) (quiet_shows z p (state_of h) _ _ _ refl refl refl was.shows)
 refuses_commit z p h commit.Stores was m other = absurd m
-refuses_commit z p h (commit.Frames n) was m other = plain_more z p p h (record { pass = Collector; act = act.CommitGc (commit.Frames n) } ∷ []) was (record { finishes = was.shows.none_agreed; may = may_refuse z p h (commit.Frames n) was m other }, tt) (quiet_shows z p (state_of h) _ _ _ refl was.shows)
+refuses_commit z p h (commit.Frames n) was m other = plain_more z p p h (record { pass = Collector; act = act.CommitGc (commit.Frames n) } ∷ []) was (record { finishes = was.shows.none_agreed; may = may_refuse z p h (commit.Frames n) was m other }, tt) (quiet_shows z p (state_of h) _ _ _ refl refl refl was.shows)
 
 pub commits_alone : (z : Sizes) (p : Parts) (h : List Entry) (reply : Commit) → IsPlain z p h → MayEnd p.phase (p.pushed - p.scanned) (count_by (λ is_open. is_open) p.frames) reply → CommitsAlone (state_of h) reply (act.CommitGc reply ∷ [])
 commits_alone z p h commit.Done was m = record { are = refl; unfinished = λ e. ((λ t. absurd cc), (λ ne. absurd (ne (none_grey z p (state_of h) was.shows m.1)))); no_stores = λ e. cc }
@@ -117,15 +118,15 @@ done_facts phase grey opened (commit.Frames n) m e = absurd cc
 
 -- ---- members of some of the units
 
-distinct_left : (xs ys : List Name) → Distinct (xs ++ ys) → Distinct xs
+pub distinct_left : (xs ys : List Name) → Distinct (xs ++ ys) → Distinct xs
 distinct_left [] ys d = tt
 distinct_left (x ∷ xs) ys d = ((λ a. d.0 (among_left xs ys x a)), distinct_left xs ys d.1)
 
-distinct_right : (xs ys : List Name) → Distinct (xs ++ ys) → Distinct ys
+pub distinct_right : (xs ys : List Name) → Distinct (xs ++ ys) → Distinct ys
 distinct_right [] ys d = d
 distinct_right (x ∷ xs) ys d = distinct_right xs ys d.1
 
-distinct_both : (xs ys : List Name) → Distinct (xs ++ ys) → (n : Name) → Among xs n → Among ys n → ⊥
+pub distinct_both : (xs ys : List Name) → Distinct (xs ++ ys) → (n : Name) → Among xs n → Among ys n → ⊥
 distinct_both [] ys d n a b = a
 distinct_both (x ∷ xs) ys d n (inl e) b = d.0 (among_right xs ys x (subst (λ (m : Name). Among ys m) (sym e) b))
 distinct_both (x ∷ xs) ys d n (inr a) b = distinct_both xs ys d.1 n a b
@@ -133,7 +134,7 @@ distinct_both (x ∷ xs) ys d n (inr a) b = distinct_both xs ys d.1 n a b
 members_filter : (q : List Name → Bool) (units : List (List Name)) (n : Name) → Among (members (filter q units)) n → Among (members units) n
 members_filter q units n a = let v = among_members (filter q units) n a in members_among units v.0 n (among_filter q units v.0 v.1) v.2
 
-distinct_filter : (q : List Name → Bool) (units : List (List Name)) → Distinct (members units) → Distinct (members (filter q units))
+pub distinct_filter : (q : List Name → Bool) (units : List (List Name)) → Distinct (members units) → Distinct (members (filter q units))
 distinct_filter q [] d = tt
 distinct_filter q (u ∷ units) d = go (q u) (distinct_filter q units (distinct_right u (members units) d))
   where
@@ -145,7 +146,7 @@ count_members : (p : Name → Bool) (units : List (List Name)) → count_by p (m
 count_members p [] = refl
 count_members p (u ∷ units) = let rest = count_members p units in let c = count_cons (λ (v : List Name). count_by p v) u units in let a = sum_by-append (λ x. cond {A = ℕ} (p x) 1 0) u (members units) in omega arith
 
-count_removals : (lane : ℕ) (names : List Name) → count_by (λ r. r.name.lane == lane) (map removal_of names) ≡ count_by (λ n. n.lane == lane) names
+pub count_removals : (lane : ℕ) (names : List Name) → count_by (λ r. r.name.lane == lane) (map removal_of names) ≡ count_by (λ n. n.lane == lane) names
 count_removals lane [] = refl
 count_removals lane (n ∷ names) =
     let rest = count_removals lane names in
@@ -153,7 +154,7 @@ count_removals lane (n ∷ names) =
     let b = count_cons (λ (m : Name). cond {A = ℕ} (m.lane == lane) 1 0) n names in
     omega arith
 
-names_back : (names : List Name) → map (λ r. r.name) (map removal_of names) ≡ names
+pub names_back : (names : List Name) → map (λ r. r.name) (map removal_of names) ≡ names
 names_back [] = refl
 names_back (n ∷ names) = ap (λ (ns : List Name). n ∷ ns) (names_back names)
 
@@ -167,6 +168,23 @@ removals_among [] r a = absurd a
 removals_among (m ∷ names) r (inl e) = inl (ap (λ (x : Removal). x.name) e)
 removals_among (m ∷ names) r (inr a) = inr (removals_among names r a)
 
+fresh_removals : (names : List Name) (r : Removal) → Among (map removal_of names) r → r.stage ≡ AtRemoved
+fresh_removals [] r a = absurd a
+fresh_removals (n ∷ names) r (inl e) = ap (λ (x : Removal). x.stage) (sym e)
+fresh_removals (n ∷ names) r (inr a) = fresh_removals names r a
+
+none_at_end : (names : List Name) (n : Name) → at_end (map removal_of names) n ≡ false
+none_at_end [] n = refl
+none_at_end (m ∷ names) n = rw (none_at_end names n) (go (same_name n m))
+  where
+    go : (b : Bool) → ((b && false) || false) ≡ false
+    go true = refl
+    go false = refl
+
+count_all : (q : Name → Bool) (u : List Name) → ((n : Name) → q n ≡ true) → count_by q u ≡ length u
+count_all q [] f = refl
+count_all q (n ∷ u) f = let rest = count_all q u f in let c = count_cons (λ (m : Name). cond {A = ℕ} (q m) 1 0) n u in let one : cond {A = ℕ} (q n) 1 0 ≡ 1 = ap (λ (b : Bool). cond {A = ℕ} b 1 0) (f n) in omega arith
+
 -- ---- a collection commits
 
 not_flip : (b : Bool) → not b ≡ true → b ≡ false
@@ -174,7 +192,7 @@ not_flip false e = refl
 not_flip true e = absurd cc
 
 module _ (z : Sizes) (p : Parts) (h : List Entry) (lives : List Life) (was : IsPlain z p h) (marking : p.phase ≡ Marking) (black : p.pushed - p.scanned ≡ 0) (open_none : count_by (λ is_open. is_open) p.frames ≡ 0)
-    (removes : Removes p.firsts p.marked p.lives lives (length p.lives)) where
+    (removes : Removes p.firsts p.marked p.lives lives (length p.lives)) (polls waiting : List ℕ) (cleared : Filled p.polls polls 0 (length p.polls) (λ k. 0)) (copied : Filled p.waiting waiting 0 (length p.sizes) (λ k. get_or p.sizes k 0)) where
   abbrev s : Shows z p (state_of h)
   s = was.shows
 
@@ -229,21 +247,29 @@ module _ (z : Sizes) (p : Parts) (h : List Entry) (lives : List Life) (was : IsP
       go Live false e b is = absurd cc
       go Free b e _ is = absurd cc
       go Removed b e _ is = absurd cc
+      go Begun b e _ is = absurd cc
+      go Finished b e _ is = absurd cc
 
-  not_removed : (i : ℕ) → life_at p.lives i ≡ Removed → ⊥
-  not_removed i e =
-      let n = s.units.named i (λ free. cc) in
+  -- no removed object was left
+  not_gone : (i : ℕ) → is_gone (life_at p.lives i) ≡ true → ⊥
+  not_gone i e =
+      let n = s.units.named i (λ free. let none : is_gone (life_at p.lives i) ≡ false = ap is_gone free in cc) in
       let a = s.removed.removed i n.0 n.1 e in
-      subst (λ (rs : List Removal). Among rs (removal_of n.0)) (s.removed.none_left (sym s.phase ∙ marking)) a
+      subst (λ (rs : List Removal). Among rs (removal_at p.lives p.polls i n.0)) (s.removed.none_left (sym s.phase ∙ marking)) a
 
-  now_removed : (i : ℕ) → life_at lives i ≡ Removed → (life_at p.lives i ≡ Live) × (bit i ≡ false)
-  now_removed i e = go (life_at p.lives i) (bit i) refl refl (sym (life_is i) ∙ e)
+  now_gone : (i : ℕ) → is_gone (life_at lives i) ≡ true → (life_at p.lives i ≡ Live) × (bit i ≡ false)
+  now_gone i e = go (life_at p.lives i) (bit i) refl refl (ap is_gone (sym (life_is i)) ∙ e)
     where
-      go : (x : Life) (b : Bool) → life_at p.lives i ≡ x → bit i ≡ b → without x b ≡ Removed → (life_at p.lives i ≡ Live) × (bit i ≡ false)
+      go : (x : Life) (b : Bool) → life_at p.lives i ≡ x → bit i ≡ b → is_gone (without x b) ≡ true → (life_at p.lives i ≡ Live) × (bit i ≡ false)
       go Live true e b is = absurd cc
       go Live false e b is = (e, b)
       go Free b e _ is = absurd cc
-      go Removed b e _ is = absurd (not_removed i e)
+      go Removed b e _ is = absurd (not_gone i (ap is_gone e))
+      go Begun b e _ is = absurd (not_gone i (ap is_gone e))
+      go Finished b e _ is = absurd (not_gone i (ap is_gone e))
+
+  goes : (i : ℕ) → life_at p.lives i ≡ Live → bit i ≡ false → life_at lives i ≡ Removed
+  goes i e b = life_is i ∙ ap (λ (x : Life). without x (bit i)) e ∙ ap (λ (x : Bool). without Live x) b
 
   -- ---- units
 
@@ -328,6 +354,9 @@ module _ (z : Sizes) (p : Parts) (h : List Entry) (lives : List Life) (was : IsP
     no_strong = s.roots.no_strong;
   }
 
+  distinct_white : Distinct (members white)
+  distinct_white = distinct_filter (λ u. not (is_marked m u)) w.units s.distinct
+
   -- ---- frames, removed objects, free indexes
 
   held_none : (lane : ℕ) → ((state_of h).frames lane).held ≡ []
@@ -340,24 +369,76 @@ module _ (z : Sizes) (p : Parts) (h : List Entry) (lives : List Life) (was : IsP
     paid = s.held.paid;
   }
 
-  removed_kept : RemovedShow z p.names lives 0 0 Gathering (map removal_of (members white)) [] 0
+  no_polls : (i : ℕ) → get_or polls i 0 ≡ 0
+  no_polls i = dite (dec_le (length p.polls) i)
+      (λ (le : length p.polls ≤ i). get_or_past polls i 0 (omega (arith, cleared.len)))
+      (λ (le : ¬ (length p.polls ≤ i)). from_start cleared i 0 (lt_of_not-le le))
+
+  removal_is : (i : ℕ) (n : Name) → is_gone (life_at lives i) ≡ true → removal_of n ≡ removal_at lives polls i n
+  removal_is i n e =
+      let was = now_gone i e in
+      let stage : stage_of (life_at lives i) ≡ AtRemoved = ap stage_of (goes i was.0 was.1) in
+      λ t. record { name = n; stage = sym stage t; polls = sym (no_polls i) t }
+
+  -- the unit of a removed object is white
+  gone_unit : (i : ℕ) (u : List Name) → StandsAt p.names p.firsts p.sizes p.next p.lives w.units (first_at p.firsts i) u → bit i ≡ false → Among white u
+  gone_unit i u t b =
+      let unmarked : is_marked m u ≡ false = sym (member_bit (first_at p.firsts i) u t i refl) ∙ b in
+      filter_among (λ u. not (is_marked m u)) w.units u t.among (ap not unmarked)
+
+  removed_kept : RemovedShow z p.names lives polls 0 0 Gathering (map removal_of (members white)) [] 0
   removed_kept = record {
     swept_is = refl;
     swept_few = omega arith;
+    polls_len = cleared.len ∙ s.removed.polls_len;
     removed = λ i n at life.
-        let l = now_removed i life in
+        let l = now_gone i life in
         let r = s.units.each i l.0 in
         let has_n = r.1.whole i n (record { name = at; life = l.0 }) refl in
-        let unmarked : is_marked m r.0 ≡ false = sym (member_bit (first_at p.firsts i) r.0 r.1 i refl) ∙ l.1 in
-        among_removals (members white) n (members_among white r.0 n (filter_among (λ u. not (is_marked m u)) w.units r.0 r.1.among (ap not unmarked)) has_n);
-    gone = λ r a. let j = white_member r.name (removals_among (members white) r a) in (j.0, j.1.name, life_is j.0 ∙ ap (λ (x : Life). without x (bit j.0)) j.1.life ∙ ap (λ (b : Bool). without Live b) j.2);
-    distinct = subst (λ (ns : List Name). Distinct ns) (sym (names_back (members white))) (distinct_filter (λ u. not (is_marked m u)) w.units s.distinct);
-    found_distinct = tt;
-    found_are = λ e n a. absurd a;
-    are_found = λ e i n b. absurd (omega arith);
+        subst (λ (x : Removal). Among (map removal_of (members white)) x) (removal_is i n life)
+        (among_removals (members white) n (members_among white r.0 n (gone_unit i r.0 r.1 l.1) has_n));
+    gone = λ r a. let j = white_member r.name (removals_among (members white) r a) in (j.0, j.1.name, ap is_gone (goes j.0 j.1.life j.2));
+    distinct = subst (λ (ns : List Name). Distinct ns) (sym (names_back (members white))) distinct_white;
+    fresh = λ e r a. fresh_removals (members white) r a;
+    found_is = λ e. refl;
     left_is = refl;
     left_few = λ e. omega arith;
     none_left = λ e. absurd cc;
+  }
+
+  -- ---- removed units
+
+  abbrev Lies : ℕ → List Name → Type 0
+  Lies head u = LiesAt p.names p.firsts p.sizes p.next waiting lives (map removal_of (members white)) white head u
+
+  waits_all : (head : ℕ) → get_or waiting head 0 ≡ get_or p.sizes head 0
+  waits_all head = dite (dec_le (length p.sizes) head)
+      (λ (le : length p.sizes ≤ head). get_or_past waiting head 0 (omega (arith, copied.len, s.gone.waiting_len, s.units.sizes_len)) ∙ sym (get_or_past p.sizes head 0 le))
+      (λ (le : ¬ (length p.sizes ≤ head)). from_start copied head 0 (lt_of_not-le le))
+
+  lies_white : (head : ℕ) (u : List Name) → Stands head u → is_marked m u ≡ false → Lies head u
+  lies_white head u t e = record {
+    among = filter_among (λ u. not (is_marked m u)) w.units u t.among (ap not e);
+    life = ap is_gone (goes head t.life (member_bit head u t head t.own ∙ e));
+    own = t.own;
+    size = t.size;
+    linked = t.linked;
+    inside = λ n is. let j = t.inside n is in (j.0, record { name = j.1.name; life = ap is_gone (goes j.0 j.1.life (member_bit head u t j.0 j.2 ∙ e)) }, j.2);
+    whole = λ i n a f. t.whole i n (record { name = a.name; life = (now_gone i a.life).0 }) f;
+    waits = waits_all head ∙ t.size ∙ sym (count_all (λ n. not (at_end (map removal_of (members white)) n)) u (λ n. ap not (none_at_end (members white) n)));
+  }
+
+  gone_kept : GoneShow z p.names p.firsts p.sizes p.next waiting lives (map removal_of (members white)) white
+  gone_kept = record {
+    waiting_len = copied.len ∙ s.gone.waiting_len;
+    distinct = distinct_white;
+    each = λ i e.
+        let l = now_gone i e in
+        let r = s.units.each i l.0 in
+        (r.0, lies_white (first_at p.firsts i) r.0 r.1 (sym (member_bit (first_at p.firsts i) r.0 r.1 i refl) ∙ l.1));
+    all = λ u n a e still.
+        let r = s.units.all u (among_filter (λ u. not (is_marked m u)) w.units u a) in
+        (r.0, lies_white r.0 u r.1 (not_flip _ (among_filter_test (λ u. not (is_marked m u)) w.units u a)));
   }
 
   -- what was free is free, and what is free was
@@ -372,6 +453,8 @@ module _ (z : Sizes) (p : Parts) (h : List Entry) (lives : List Life) (was : IsP
       go Live true is e = absurd cc
       go Live false is e = absurd cc
       go Removed b is e = absurd cc
+      go Begun b is e = absurd cc
+      go Finished b is e = absurd cc
 
   free_kept : FreeShows z p.names lives p.free p.spare kept (map removal_of (members white))
   free_kept = record {
@@ -405,7 +488,7 @@ module _ (z : Sizes) (p : Parts) (h : List Entry) (lives : List Life) (was : IsP
     may = record { marking = sym s.phase ∙ marking; closed = opened_none; black = none_grey z p (state_of h) s black; unreached = unreached };
   }
 
-  pub commits : IsPlain z (record p { phase = Gathering; left = 0; swept = 0; lives = lives }) (h ++ done_entry ∷ [])
+  pub commits : IsPlain z (record p { phase = Gathering; left = 0; swept = 0; listed = 0; begun = 0; from = 0; kept = 0; done = None; polls = polls; waiting = waiting; lives = lives }) (h ++ done_entry ∷ [])
   commits = plain_more z p _ h (done_entry ∷ []) was (may_commit, tt) record {
     phase = refl;
     frames = s.frames;
@@ -418,9 +501,16 @@ module _ (z : Sizes) (p : Parts) (h : List Entry) (lives : List Life) (was : IsP
     idle = λ ne. omega (arith, black, s.work.order);
     marks = λ e. absurd cc;
     roots_marked = λ e. absurd cc;
+    classes = s.classes;
     removed = removed_kept;
+    gone = gone_kept;
+    order = record { len = s.order.len; listed_few = omega arith; begun_few = omega arith; from_few = omega arith; kept_few = omega arith; early = λ e. refl };
+    gathers = λ e. record { none_begun = refl; none_done = refl; listed_at = tt; all_there = names_back (members white) };
+    queue = λ e. absurd cc;
     free = free_kept;
     none_agreed = refl;
+    none_asked = λ ne. s.none_asked (λ e. let a = marking in cc);
+    no_steps = refl;
   }
 
 pub commits_held : (h : List Entry) (names : List (Option Name)) (k : ℕ) (r : Ref) → Holds record { history = h; names = names } k r → Holds record { history = h ++ record { pass = Collector; act = act.CommitGc commit.Done } ∷ []; names = names } k r

@@ -18,24 +18,28 @@ use Rattle.world_model.specs.Histories.{after, state_of, MayBy}
 use Rattle.world_model.proofs.ListFacts.{Among, among_append, and_true, or_true, or_right}
 use Rattle.world_model.proofs.NameFacts.{names_from_range, set_at_same}
 use Rattle.world_model.proofs.Units.{AreApart, next_apart, units_apart}
-use Rattle.heap_plain.specs.Types.{Name, Ref, Kind, Lane, Phase, Gathering, Entry}
+use Rattle.heap_plain.specs.Types.{Name, Ref, ClassId, Kind, Lane, Phase, Gathering, Entry}
 use Rattle.heap_plain.specs.Types.act
 use Rattle.heap_plain.specs.declared.life.Life.{Life}
 use Rattle.heap_plain.specs.declared.life.Life.TheVariants.{Free, Live, Removed}
-use Rattle.heap_plain.specs.Parts.{Parts, name_at, life_at, first_at, next_at, Holds}
+use Rattle.heap_plain.specs.Parts.{Parts, name_at, life_at, first_at, next_at, class_at, kind_class, is_gone, stage_of, Holds}
+use Rattle.heap_plain.specs.Sweeping.{removed_name}
 use Rattle.heap_plain.specs.Filling.{FilledAt}
 use Rattle.heap_plain.specs.Stacks.{popped}
-use Rattle.heap_plain.specs.Sections.{Distinct, NamesShow, IsOfLane, IsPlace, UnitsShow, StandsAt, LivesAt, AreLinked, RootsShow, rooted_at, HeldShow, WorkShows, MarksShow, RootsMarked, RemovedShow, removal_of, FreeShows, spare_at, pushed_of, grey_of}
+use Rattle.heap_plain.specs.Sections.{Distinct, NamesShow, IsOfLane, IsPlace, UnitsShow, StandsAt, LivesAt, AreLinked, RootsShow, rooted_at, HeldShow, WorkShows, MarksShow, RootsMarked, RemovedShow, GoneShow, LiesAt, ClassesShow, FreeShows, spare_at, pushed_of, grey_of}
 use Rattle.heap_plain.specs.Plain.{Shows, IsPlain}
 use Rattle.heap_plain.proofs.WorldFacts.{at_set, set_at_other, has_among, among_has, among_left, among_right, test_among, among_test, any_same, unit_of_is, state_more}
 use Rattle.heap_plain.proofs.Fillings.{Lists-set, Lists-same}
 use Rattle.heap_plain.proofs.Entries.{plain_more}
+use Rattle.heap_plain.proofs.Queueing.{queue_more, gather_more}
+use Rattle.heap_plain.proofs.Classing.{kind_class_left, kind_class_right}
+use Rattle.heap_plain.proofs.Finding.{removed_same_names}
 use Rattle.heap_plain.proofs.Standing.{one_head, live_used, bit_below, links_same}
 use Rattle.heap_plain.proofs.Popping.{lane_below, Where, where_is, popped_lane, popped_free, free_popped}
 use Rattle.heap_plain.proofs.NewNames.{length-names_from, has_in_row, row_place, distinct_row, count_row, among_members, distinct_append, given_members, members_given}
 
 -- a creation, and what its writes leave of the vectors
-pub record Creation (z : Sizes) (p : Parts) (h : List Entry) (l m : ℕ) (more : List Kind) (ns : List (Option Name)) (fs nx : List ℕ) (ls : List Life) : Type 0 where
+pub record Creation (z : Sizes) (p : Parts) (h : List Entry) (l m : ℕ) (more : List Kind) (ns : List (Option Name)) (fs nx : List ℕ) (cs : List ClassId) (ls : List Life) : Type 0 where
   pub was : IsPlain z p h
   pub lane : l < z.lanes
   pub opened : is_open (after h) (Lane l) ≡ true
@@ -48,9 +52,10 @@ pub record Creation (z : Sizes) (p : Parts) (h : List Entry) (l m : ℕ) (more :
   pub by_name : FilledAt p.names ns (popped p.free (l * z.quota + spare_at p.spare l)) (length more) (λ k. Some (record { lane = l; count = m + 1 + k }))
   pub by_first : FilledAt p.firsts fs (popped p.free (l * z.quota + spare_at p.spare l)) (length more) (λ k. popped p.free (l * z.quota + spare_at p.spare l) 0)
   pub by_life : FilledAt p.lives ls (popped p.free (l * z.quota + spare_at p.spare l)) (length more) (λ k. Live)
+  pub by_class : FilledAt p.classes cs (popped p.free (l * z.quota + spare_at p.spare l)) (length more) (kind_class more)
   pub by_next : FilledAt p.next nx (popped p.free (l * z.quota + spare_at p.spare l)) (length more - 1) (λ k. popped p.free (l * z.quota + spare_at p.spare l) (k + 1))
 
-module _ {z : Sizes} {p : Parts} {h : List Entry} {l m : ℕ} {more : List Kind} {ns : List (Option Name)} {fs nx : List ℕ} {ls : List Life} (new : Creation z p h l m more ns fs nx ls) where
+module _ {z : Sizes} {p : Parts} {h : List Entry} {l m : ℕ} {more : List Kind} {ns : List (Option Name)} {fs nx : List ℕ} {cs : List ClassId} {ls : List Life} (new : Creation z p h l m more ns fs nx cs ls) where
   abbrev s : Shows z p (state_of h)
   s = new.was.shows
 
@@ -433,32 +438,108 @@ module _ {z : Sizes} {p : Parts} {h : List Entry} {l m : ℕ} {more : List Kind}
 
   -- ---- removed objects
 
-  removed_new : (phase : Phase) (removals : List Removal) (found : List Name) (swept : ℕ) → RemovedShow z p.names p.lives p.left p.swept phase removals found swept → RemovedShow z ns ls p.left p.swept phase removals found swept
+  -- a removed object is at an old index
+  gone_out : (i : ℕ) → is_gone (life_at ls i) ≡ true → out_of i
+  gone_out i e = go (where_is at (length more) i)
+    where
+      go : Where at (length more) i → out_of i
+      go (inl w) = absurd (let live : is_gone (life_at ls i) ≡ false = ap is_gone (life_in w.0 i w.1 w.2) in cc)
+      go (inr o) = o
+
+  was_gone : (i : ℕ) → is_gone (life_at p.lives i) ≡ true → out_of i
+  was_gone i e = λ k below same.
+      let free : life_at p.lives (at k) ≡ Free = popped_free s.free l (length more) new.lane new.room k below in
+      absurd (let none : is_gone (life_at p.lives i) ≡ false = ap is_gone (ap (life_at p.lives) (sym same) ∙ free) in cc)
+
+  still_gone : (i : ℕ) → is_gone (life_at p.lives i) ≡ true → is_gone (life_at ls i) ≡ true
+  still_gone i e = ap is_gone (life_out i (was_gone i e)) ∙ e
+
+  before_gone : (i : ℕ) → is_gone (life_at ls i) ≡ true → is_gone (life_at p.lives i) ≡ true
+  before_gone i e = ap is_gone (sym (life_out i (gone_out i e))) ∙ e
+
+  keeps_name : (i : ℕ) (n : Name) → name_at p.names i ≡ Some n → name_at ns i ≡ Some n
+  keeps_name i n e = name_out i (named_out i n e) ∙ e
+
+  found_same : (i : ℕ) → removed_name (life_at ls i) (name_at ns i) ≡ removed_name (life_at p.lives i) (name_at p.names i)
+  found_same i = go (where_is at (length more) i)
+    where
+      go : Where at (length more) i → removed_name (life_at ls i) (name_at ns i) ≡ removed_name (life_at p.lives i) (name_at p.names i)
+      go (inl w) =
+          let free : life_at p.lives i ≡ Free = ap (life_at p.lives) w.2 ∙ popped_free s.free l (length more) new.lane new.room w.0 w.1 in
+          rw (life_in w.0 i w.1 w.2, free) refl
+      go (inr o) = rw (life_out i o, name_out i o) refl
+
+  removed_new : (phase : Phase) (removals : List Removal) (found : List Name) (swept : ℕ) → RemovedShow z p.names p.lives p.polls p.left p.swept phase removals found swept → RemovedShow z ns ls p.polls p.left p.swept phase removals found swept
   removed_new phase removals found swept k = record {
     swept_is = k.swept_is;
     swept_few = k.swept_few;
-    removed = λ i n there life. removed i n there life (where_is at (length more) i);
-    gone = λ r a. let j = k.gone r a in let o = named_out j.0 r.name j.1 in (j.0, name_out j.0 o ∙ j.1, life_out j.0 o ∙ j.2);
+    polls_len = k.polls_len;
+    removed = λ i n there e.
+        let o = gone_out i e in
+        subst (λ (life : Life). Among removals (record { name = n; stage = stage_of life; polls = get_or p.polls i 0 })) (sym (life_out i o))
+        (k.removed i n (sym (name_out i o) ∙ there) (before_gone i e));
+    gone = λ r a. let j = k.gone r a in (j.0, keeps_name j.0 r.name j.1, still_gone j.0 j.2);
     distinct = k.distinct;
-    found_distinct = k.found_distinct;
-    found_are = λ e n a. let j = k.found_are e n a in let o = named_out j.0 n j.2 in (j.0, j.1, name_out j.0 o ∙ j.2, life_out j.0 o ∙ j.3);
-    are_found = λ e i n b there life. are_found e i n b there life (where_is at (length more) i);
+    fresh = k.fresh;
+    found_is = λ e. k.found_is e ∙ sym (removed_same_names p.names ns p.lives ls found_same 0 p.swept);
     left_is = k.left_is;
     left_few = k.left_few;
     none_left = k.none_left;
   }
-    where
-      removed : (i : ℕ) (n : Name) → name_at ns i ≡ Some n → life_at ls i ≡ Removed → Where at (length more) i → Among removals (removal_of n)
-      removed i n there life (inl w) = absurd (let live = life_in w.0 i w.1 w.2 in cc)
-      removed i n there life (inr o) = k.removed i n (sym (name_out i o) ∙ there) (sym (life_out i o) ∙ life)
 
-      are_found : phase ≡ Gathering → (i : ℕ) (n : Name) → i < p.swept → name_at ns i ≡ Some n → life_at ls i ≡ Removed → Where at (length more) i → Among found n
-      are_found e i n b there life (inl w) = absurd (let live = life_in w.0 i w.1 w.2 in cc)
-      are_found e i n b there life (inr o) = k.are_found e i n b (sym (name_out i o) ∙ there) (sym (life_out i o) ∙ life)
+  -- ---- removed units
+
+  lies_old : (head : ℕ) (u : List Name) → LiesAt p.names p.firsts p.sizes p.next p.waiting p.lives (after h).removals (after h).last_removed head u
+      → LiesAt ns fs sizes' nx p.waiting ls (after h).removals (after h).last_removed head u
+  lies_old head u t = let o = was_gone head t.life in record {
+    among = t.among;
+    life = still_gone head t.life;
+    own = first_out head o ∙ t.own;
+    size = get_or-set_other p.sizes first head (length more) 0 (not_first head o) ∙ t.size;
+    linked = links_same p.names ns p.next nx u (λ i n e there. (keeps_name i n there, next_out i (named_out i n there))) head t.linked;
+    inside = λ n e. let j = t.inside n e in
+        (j.0, record { name = keeps_name j.0 n j.1.name; life = still_gone j.0 j.1.life }, first_out j.0 (was_gone j.0 j.1.life) ∙ j.2);
+    whole = λ i n a f. let out = gone_out i a.life in
+        t.whole i n (record { name = sym (name_out i out) ∙ a.name; life = before_gone i a.life }) (sym (first_out i out) ∙ f);
+    waits = t.waits;
+  }
+
+  gone_new : GoneShow z ns fs sizes' nx p.waiting ls (after h).removals (after h).last_removed
+  gone_new = record {
+    waiting_len = s.gone.waiting_len;
+    distinct = s.gone.distinct;
+    each = λ i e. let r = s.gone.each i (before_gone i e) in
+        (r.0, subst (λ (x : ℕ). LiesAt ns fs sizes' nx p.waiting ls (after h).removals (after h).last_removed x r.0) (sym (first_out i (gone_out i e))) (lies_old (first_at p.firsts i) r.0 r.1));
+    all = λ u n a e still. let r = s.gone.all u n a e still in (r.0, lies_old r.0 u r.1);
+  }
+
+  -- ---- classes
+
+  classes_new : ClassesShow z ns cs new_kinds
+  classes_new = record { len = new.by_class.len ∙ s.classes.len; each = λ i n e. each i n e (where_is at (length more) i) }
+    where
+      each : (i : ℕ) (n : Name) → name_at ns i ≡ Some n → Where at (length more) i → class_at cs i ≡ kind_class (new_kinds n.lane) (n.count - 1)
+      each i n e (inl w) =
+          let own : new_kinds l ≡ (after h).kinds l ++ more = set_at_same (after h).kinds l ((after h).kinds l ++ more) in
+          let place : m + 1 + w.0 - 1 ≡ length ((after h).kinds l) + w.0 = omega (arith, new.is) in
+          let class : class_at cs i ≡ kind_class more w.0 = ap (class_at cs) w.2 ∙ new.by_class.inside w.0 _ w.1 in
+          subst (λ (x : Name). class_at cs i ≡ kind_class (new_kinds x.lane) (x.count - 1)) (sym (name_is w.0 i n w.1 w.2 e))
+          (class ∙ sym (kind_class_right ((after h).kinds l) more w.0 w.1) ∙ sym (λ t. kind_class (own t) (place t)))
+      each i n e (inr o) =
+          let there = sym (name_out i o) ∙ e in
+          let place = s.names.places i n there in
+          new.by_class.outside i _ o ∙ s.classes.each i n there
+          ∙ at_set (λ (kinds : List Kind). kind_class ((after h).kinds n.lane) (n.count - 1) ≡ kind_class kinds (n.count - 1)) (after h).kinds l n.lane ((after h).kinds l ++ more)
+          (λ same. ap (λ (x : ℕ). kind_class ((after h).kinds x) (n.count - 1)) same
+          ∙ sym (kind_class_left ((after h).kinds l) more (n.count - 1) (below same place.few place.some)))
+          (λ ne. refl)
+        where
+          below : n.lane ≡ l → n.count ≤ length ((after h).kinds n.lane) → 1 ≤ n.count → n.count - 1 < length ((after h).kinds l)
+          below same few some = let t : length ((after h).kinds n.lane) ≡ length ((after h).kinds l) = ap (λ (x : ℕ). length ((after h).kinds x)) same in omega arith
 
   -- ---- all of it
 
-  pub creates : IsPlain z (record p { names = ns; firsts = fs; sizes = sizes'; next = nx; lives = ls; marked = marked'; spare = set p.spare l (spare_at p.spare l - length more); made = set p.made l (m + length more) }) (h ++ record { pass = Lane l; act = act.Make more (m + 1) } ∷ [])
+  pub creates : IsPlain z (record p { names = ns; firsts = fs; sizes = sizes'; next = nx; classes = cs; lives = ls; marked = marked'; spare = set p.spare l (spare_at p.spare l - length more); made = set p.made l (m + length more) }) (h ++ record { pass = Lane l; act = act.Make more (m + 1) } ∷ [])
   creates = plain_more z p _ h (record { pass = Lane l; act = act.Make more (m + 1) } ∷ []) new.was (may_make, tt) record {
     phase = s.phase;
     frames = s.frames;
@@ -471,9 +552,16 @@ module _ {z : Sizes} {p : Parts} {h : List Entry} {l m : ℕ} {more : List Kind}
     idle = s.idle;
     marks = λ e. marks_new _ _ _ (s.marks e);
     roots_marked = λ e. roots_marked_new (s.roots_marked e);
+    classes = classes_new;
     removed = removed_new _ _ _ _ s.removed;
+    gone = gone_new;
+    order = s.order;
+    gathers = λ e. gather_more keeps_name (s.gathers e);
+    queue = λ e. queue_more keeps_name (s.queue e);
     free = free_new;
     none_agreed = s.none_agreed;
+    none_asked = s.none_asked;
+    no_steps = s.no_steps;
   }
 
   abbrev made_entry : Entry

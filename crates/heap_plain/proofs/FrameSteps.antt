@@ -53,9 +53,16 @@ opens z p h l was lane closed =
       idle = s.idle;
       marks = s.marks;
       roots_marked = s.roots_marked;
+      classes = s.classes;
       removed = s.removed;
+      gone = s.gone;
+      order = s.order;
+      gathers = s.gathers;
+      queue = s.queue;
       free = s.free;
       none_agreed = s.none_agreed;
+      none_asked = s.none_asked;
+      no_steps = s.no_steps;
     }
 
 pub held_opens : (z : Sizes) (p : Parts) (h : List Entry) (l : ℕ) → IsPlain z p h → is_open (after h) (Lane l) ≡ false → (k : ℕ) (r : Ref)
@@ -104,9 +111,16 @@ closes z p h l was lane is =
       idle = s.idle;
       marks = s.marks;
       roots_marked = s.roots_marked;
+      classes = s.classes;
       removed = s.removed;
+      gone = s.gone;
+      order = s.order;
+      gathers = s.gathers;
+      queue = s.queue;
       free = s.free;
       none_agreed = s.none_agreed;
+      none_asked = s.none_asked;
+      no_steps = s.no_steps;
     }
 
 pub held_closes : (h : List Entry) (names : List (Option Name)) (l k : ℕ) (r : Ref) → k ≢ l

@@ -2,6 +2,10 @@ pub mod Fillings
 pub mod Stacking
 pub mod WorldFacts
 pub mod Entries
+pub mod Queueing
+pub mod Listings
+pub mod Classing
+pub mod Finding
 pub mod FrameSteps
 pub mod Beginning
 pub mod Standing
@@ -15,7 +19,13 @@ pub mod Noting
 pub mod Quiet
 pub mod BeginSteps
 pub mod SliceSteps
-pub mod Finding
 pub mod CommitSteps
+pub mod Gathering
 pub mod SweepSteps
+pub mod Pushing
+pub mod Emptying
+pub mod Restaging
+pub mod PurgeSteps
+pub mod Releasing
+pub mod Purges
 pub mod Opened

@@ -1,16 +1,17 @@
 -- The open frames and slices after one call.
-use Rattle.std.proofs.Common.{◌≡◌, ℕ, refl, ap, ◌∙◌, inl, inr, Bool, true, false, not, List, [], ◌∷◌, map, filter, Result, Ok, Err}
+use Rattle.std.proofs.Common.{◌≡◌, ℕ, refl, ap, ◌∙◌, inl, inr, Bool, true, false, not, List, [], ◌∷◌, ◌++◌, map, filter, Result, Ok, Err}
 use Rattle.std.specs.List.{list_all}
+use Rattle.std.proofs.lemmas.Bool.{and_from}
 use Rattle.world_model.specs.Sizes.{Sizes}
 use Rattle.world_model.specs.NameLists.{same_pass}
 use Rattle.world_model.specs.World.{World}
 use Rattle.world_model.specs.State.{State, Marks}
 use Rattle.world_model.specs.Next.{next_world, next, run}
 use Rattle.world_model.specs.Histories.{after, state_of}
-use Rattle.world_model.specs.Calls.{by, Appends, CallOf}
+use Rattle.world_model.specs.Calls.{by, Appends, CallOf, is_purge_part}
 use Rattle.world_model.specs.Engines.{act_of_create}
 use Rattle.world_model.proofs.ListFacts.{and_true}
-use Rattle.heap_plain.specs.Types.{Name, Kind, Pass, Lane, Phase, Begin, Commit, CreateErr, Act, Entry}
+use Rattle.heap_plain.specs.Types.{Name, Kind, Pass, Lane, Phase, Begin, Commit, Swept, Purged, CreateErr, Act, Entry}
 use Rattle.heap_plain.specs.Types.act
 use Rattle.heap_plain.specs.Types.begin
 use Rattle.heap_plain.specs.Types.commit
@@ -76,3 +77,22 @@ pub same_by_create : {z : Sizes} {old new : List Entry} {p : Pass} {T : Type 0} 
 same_by_create {old} {p} lane kinds (Ok made) h = by_entries h ∙ run_opened (state_of old) p h.acts (ap (list_all is_inside) h.call)
 same_by_create {old} {p} lane kinds (Err (create.Full free)) h = by_entries h ∙ run_opened (state_of old) p h.acts (ap (list_all is_inside) h.call)
 same_by_create {old} {p} lane kinds (Err (create.NamesSpent left)) h = by_entries h ∙ run_opened (state_of old) p h.acts (ap (list_all is_inside) h.call)
+
+pub same_by_sweep : {z : Sizes} {old new : List Entry} {p : Pass} {budget : ℕ} {reply : Swept} {names : List Name} → Appends z old new p (act.Sweep budget reply names) → (after new).opened ≡ (after old).opened
+same_by_sweep {old} {p} {budget} {reply} {names} h = by_entries h ∙ run_opened (state_of old) p h.acts (ap (list_all is_inside) h.call)
+
+-- nor does a purge
+parts_inside : (parts : List Act) (last : Act) → is_inside last ≡ true → list_all is_purge_part parts ≡ true → list_all is_inside (parts ++ last ∷ []) ≡ true
+parts_inside [] last e h = and_from _ _ e refl
+parts_inside (a ∷ parts) last e h = let split = and_true (is_purge_part a) _ h in and_from _ _ (inside a split.0) (parts_inside parts last e split.1)
+  where
+    inside : (a : Act) → is_purge_part a ≡ true → is_inside a ≡ true
+    inside (act.Begun of) h = refl
+    inside (act.Asked of poll answer) h = refl
+    inside (act.Finished of) h = refl
+    inside (act.Released of) h = refl
+    inside _ h = absurd cc
+
+pub same_by_purge : {z : Sizes} {old new : List Entry} {p : Pass} {budget : ℕ} {reply : Purged} → Appends z old new p (act.PurgeGc budget reply) → (after new).opened ≡ (after old).opened
+same_by_purge {old} {p} {budget} {reply} h =
+    by_entries h ∙ run_opened (state_of old) p h.acts (ap (list_all is_inside) h.call.are ∙ parts_inside h.call.parts (act.PurgeGc budget reply) refl h.call.only)

@@ -24,17 +24,17 @@ below_lane : (l k q m : ℕ) → l < k → m < q → l * q + m < k * q
 below_lane l k q m h b = let a : suc l * q ≤ k * q = mul-le-mul_right q h in omega (arith, suc-mul l q)
 
 -- an index is of one lane
-one_lane : (l k q m n : ℕ) → m < q → n < q → l * q + m ≡ k * q + n → l ≡ k
+pub one_lane : (l k q m n : ℕ) → m < q → n < q → l * q + m ≡ k * q + n → l ≡ k
 one_lane l k q m n a b e = dite (ℕ_discrete l k) (λ (h : l ≡ k). h) (λ (ne : l ≢ k).
     dite (dec_le k l)
     (λ (h : k ≤ l). let lt : k < l = omega arith in let t = below_lane k l q n lt b in absurd (omega arith))
     (λ (h : ¬ (k ≤ l)). let lt : l < k = lt_of_not-le h in let t = below_lane l k q m lt a in absurd (omega arith)))
 
-same_lane : {z : Sizes} {l k i : ℕ} → IsOfLane z l i → IsOfLane z k i → l ≡ k
+pub same_lane : {z : Sizes} {l k i : ℕ} → IsOfLane z l i → IsOfLane z k i → l ≡ k
 same_lane {z} {l} {k} {i} a b = one_lane l k z.quota (i - l * z.quota) (i - k * z.quota) (omega (arith, a.low, a.high)) (omega (arith, b.low, b.high)) (omega (arith, a.low, b.low))
 
 -- a lane's range ends within the indexes
-lane_end : (l lanes q : ℕ) → l < lanes → l * q + q ≤ lanes * q
+pub lane_end : (l lanes q : ℕ) → l < lanes → l * q + q ≤ lanes * q
 lane_end l lanes q h = let a : suc l * q ≤ lanes * q = mul-le-mul_right q h in omega (arith, suc-mul l q)
 
 pub lane_below : {z : Sizes} {l i : ℕ} → l < z.lanes → IsOfLane z l i → i < item_count z

@@ -1,9 +1,11 @@
 -- Entries that change nothing that the vectors show.
-use Rattle.std.proofs.Common.{◌≡◌, ℕ, List, None}
+use Rattle.std.proofs.Common.{◌≡◌, ◌∙◌, ℕ, sym, subst, List, Option, None}
 use Rattle.world_model.specs.Sizes.{Sizes}
 use Rattle.world_model.specs.World.{World}
 use Rattle.world_model.specs.State.{State, Slicing, Collecting}
+use Rattle.heap_plain.specs.Types.{Name}
 use Rattle.heap_plain.specs.Parts.{Parts}
+use Rattle.heap_plain.specs.Sections.{QueueShows}
 use Rattle.heap_plain.specs.Plain.{Shows}
 
 -- the state with other moments, slices and collector
@@ -16,8 +18,8 @@ quiet_state s moments slices collector = record {
   collector = collector;
 }
 
-pub quiet_shows : (z : Sizes) (p : Parts) (s : State) (moments : List World) (slices : ℕ → Slicing) (collector : Collecting) → collector.agreed ≡ None → Shows z p s → Shows z p (quiet_state s moments slices collector)
-quiet_shows z p s moments slices collector agreed h = record {
+pub quiet_shows : (z : Sizes) (p : Parts) (s : State) (moments : List World) (slices : ℕ → Slicing) (collector : Collecting) → collector.agreed ≡ None → collector.asked ≡ s.collector.asked → collector.steps ≡ 0 → Shows z p s → Shows z p (quiet_state s moments slices collector)
+quiet_shows z p s moments slices collector agreed asked steps h = record {
   phase = h.phase;
   frames = h.frames;
   names = h.names;
@@ -29,7 +31,14 @@ quiet_shows z p s moments slices collector agreed h = record {
   idle = h.idle;
   marks = h.marks;
   roots_marked = h.roots_marked;
+  classes = h.classes;
   removed = h.removed;
+  gone = h.gone;
+  order = h.order;
+  gathers = h.gathers;
+  queue = λ e. subst (λ (last : Option Name). QueueShows p.names p.order p.listed p.begun p.from p.kept p.done s.world.removals s.world.last_removed s.world.found last) (sym asked) (h.queue e);
   free = h.free;
   none_agreed = agreed;
+  none_asked = λ ne. asked ∙ h.none_asked ne;
+  no_steps = steps;
 }

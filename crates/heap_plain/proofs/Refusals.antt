@@ -51,9 +51,16 @@ refuses z p h l m asked names room (create.NamesSpent left) was lane opened is b
       idle = s.idle;
       marks = s.marks;
       roots_marked = s.roots_marked;
+      classes = s.classes;
       removed = s.removed;
+      gone = s.gone;
+      order = s.order;
+      gathers = s.gathers;
+      queue = s.queue;
       free = s.free;
       none_agreed = s.none_agreed;
+      none_asked = s.none_asked;
+      no_steps = s.no_steps;
     })
 refuses z p h l m asked names room (create.Full free) was lane opened is by_names by_stack d =
     let s = was.shows in
@@ -71,9 +78,16 @@ refuses z p h l m asked names room (create.Full free) was lane opened is by_name
       idle = s.idle;
       marks = s.marks;
       roots_marked = s.roots_marked;
+      classes = s.classes;
       removed = s.removed;
+      gone = s.gone;
+      order = s.order;
+      gathers = s.gathers;
+      queue = s.queue;
       free = s.free;
       none_agreed = s.none_agreed;
+      none_asked = s.none_asked;
+      no_steps = s.no_steps;
     })
 
 pub refuses_held : (h : List Entry) (names : List (Option Name)) (l asked : ℕ) (e : CreateErr) (k : ℕ) (r : Ref) → Holds record { history = h; names = names } k r

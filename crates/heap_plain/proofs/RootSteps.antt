@@ -170,9 +170,16 @@ module _ (z : Sizes) (p : Parts) (h : List Entry) (l : ℕ) (at : Ref) (was : Is
         idle = s.idle;
         marks = s.marks;
         roots_marked = λ e. roots_marked_set p.firsts p.roots p.marked at.index on (omega (arith, index_below, s.roots.bits.len)) (λ o. shaded o e) (s.roots_marked e);
+        classes = s.classes;
         removed = s.removed;
+        gone = s.gone;
+        order = s.order;
+        gathers = s.gathers;
+        queue = s.queue;
         free = s.free;
         none_agreed = s.none_agreed;
+        none_asked = s.none_asked;
+        no_steps = s.no_steps;
       })
 
   pub roots_held : (on old : Bool) (k : ℕ) (r : Ref) → Holds record { history = h; names = p.names } k r → Holds record { history = h ++ record { pass = Lane l; act = act.Root n on old } ∷ []; names = p.names } k r
@@ -223,9 +230,16 @@ module _ (z : Sizes) (p : Parts) (h : List Entry) (l : ℕ) (at : Ref) (was : Is
         idle = λ ne. absurd (ne e);
         marks = λ m. rw (grey_push p.work p.scanned p.pushed head room s.work.order, pushed_push p.work p.pushed head room) after_mark;
         roots_marked = λ m. roots_marked_set p.firsts p.roots (set p.marked head true) at.index true (omega (arith, index_below, s.roots.bits.len)) (λ o. now_marked) (λ i r. still (first_at p.firsts i) (s.roots_marked e i r));
+        classes = s.classes;
         removed = s.removed;
+        gone = s.gone;
+        order = s.order;
+        gathers = s.gathers;
+        queue = s.queue;
         free = s.free;
         none_agreed = s.none_agreed;
+        none_asked = s.none_asked;
+        no_steps = s.no_steps;
       })
     where
       inside : head < length p.marked

@@ -26,7 +26,7 @@ use Rattle.heap_plain.specs.Types.stop
 use Rattle.heap_plain.specs.declared.life.Life.{Life}
 use Rattle.heap_plain.specs.Parts.{Parts, Holds, name_at}
 use Rattle.heap_plain.specs.Notes.{names_at, size_of, Scans, StopsBy}
-use Rattle.heap_plain.specs.Sections.{Distinct, NamesShow, UnitsShow, StandsAt, RootsShow, MarksShow, pushed_of, grey_of}
+use Rattle.heap_plain.specs.Sections.{Distinct, NamesShow, UnitsShow, StandsAt, RootsShow, MarksShow, pushed_of, grey_of, QueueShows}
 use Rattle.heap_plain.specs.Plain.{Shows, IsPlain}
 use Rattle.heap_plain.proofs.WorldFacts.{in_world_of, unit_of_is, among_test, test_among, has_among, any_same, same_pass_refl, none_out}
 use Rattle.heap_plain.proofs.Fillings.{drop_more}
@@ -94,6 +94,8 @@ pub record ScanRun (z : Sizes) (names : List (Option Name)) (firsts sizes links 
   pub world : (run s (by (Marker marker) (map act.Scanned of))).world ≡ s.world
   pub frames : (run s (by (Marker marker) (map act.Scanned of))).frames ≡ s.frames
   pub agreed : (run s (by (Marker marker) (map act.Scanned of))).collector.agreed ≡ s.collector.agreed
+  pub asked : (run s (by (Marker marker) (map act.Scanned of))).collector.asked ≡ s.collector.asked
+  pub steps : (run s (by (Marker marker) (map act.Scanned of))).collector.steps ≡ s.collector.steps
   pub marks : s.world.phase ≡ Marking → MarksShow names firsts sizes links lives s.world.units marked listed rest (run s (by (Marker marker) (map act.Scanned of))).marks.kept (run s (by (Marker marker) (map act.Scanned of))).marks.fresh (run s (by (Marker marker) (map act.Scanned of))).marks.scanned
   pub total : member_count ((run s (by (Marker marker) (map act.Scanned of))).slices marker).scanned ≡ member_count (s.slices marker).scanned + size_of sizes heads
   pub within : WasWithin budget ((run s (by (Marker marker) (map act.Scanned of))).slices marker).scanned
@@ -112,6 +114,8 @@ scan_run z names firsts sizes links lives made roots s marked listed [] rest mar
   world = refl;
   frames = refl;
   agreed = refl;
+  asked = refl;
+  steps = refl;
   marks = marks;
   total = omega arith;
   within = within;
@@ -147,6 +151,8 @@ scan_run z names firsts sizes links lives made roots s marked listed (head ∷ h
       world = rest_run.world;
       frames = rest_run.frames;
       agreed = rest_run.agreed;
+      asked = rest_run.asked;
+      steps = rest_run.steps;
       marks = rest_run.marks;
       total = let c = count_cons (λ (x : ℕ). get_or sizes x 0) head heads in omega (arith, rest_run.total, stands.size);
       within = rest_run.within;
@@ -337,9 +343,16 @@ module _ (z : Sizes) (p : Parts) (h mid : List Entry) (marker budget count total
     idle = λ ne. omega (arith, s.idle ne, scans.few, grey_len);
     marks = λ e. subst (λ (xs : List ℕ). MarksShow p.names p.firsts p.sizes p.next p.lives (after h).units p.marked (pushed_of p.work p.pushed) xs end.marks.kept end.marks.fresh end.marks.scanned) (sym (drop_more p.scanned count (take p.pushed p.work))) (ran.marks (sym s.phase ∙ e));
     roots_marked = s.roots_marked;
+    classes = s.classes;
     removed = s.removed;
+    gone = s.gone;
+    order = s.order;
+    gathers = s.gathers;
+    queue = λ e. subst (λ (last : Option Name). QueueShows p.names p.order p.listed p.begun p.from p.kept p.done (after h).removals (after h).last_removed (after h).found last) (sym ran.asked) (s.queue e);
     free = s.free;
     none_agreed = ran.agreed ∙ s.none_agreed;
+    none_asked = λ ne. ran.asked ∙ s.none_asked ne;
+    no_steps = ran.steps ∙ s.no_steps;
   }
 
   same_end : record end { world = after h; frames = (state_of h).frames } ≡ end

@@ -1,33 +1,39 @@
 -- Sweeping.
-use Rattle.std.proofs.Common.{◌≡◌, ◌≢◌, ℕ, ◌+◌, ◌<◌, ◌≤◌, ◌&&◌, not, refl, sym, subst, ap, ◌∙◌, inl, inr, zero, suc, arith, Bool, true, false, List, [], ◌∷◌, ◌++◌, length, length-append, append-nil, map, ◌⊎◌, Option, Some, None}
+use Rattle.std.proofs.Common.{◌≡◌, ◌≢◌, ℕ, ◌+◌, ◌<◌, ◌≤◌, ◌^◌, ◌&&◌, not, refl, sym, subst, subst₂, ap, ◌∙◌, inl, inr, zero, suc, arith, Bool, true, false, List, [], ◌∷◌, ◌++◌, length, length-append, append-nil, map, filter, take, ◌⊎◌, Option, Some, None}
 use Rattle.std.specs.List.{list_all}
 use Rattle.std.proofs.Math.Logic.{dite}
 use Rattle.std.proofs.Math.Decide.{dec_le}
 use Rattle.std.proofs.Math.Nat.{lt_of_not-le}
 use Rattle.std.proofs.lemmas.Bool.{and_from}
-use Rattle.std.proofs.lemmas.List.{length-map}
+use Rattle.std.proofs.lemmas.List.{length-map, length-take-le}
+use Rattle.std.proofs.lemmas.Grind.{flat_map-append}
 use Rattle.world_model.specs.Sizes.{Sizes, item_count}
-use Rattle.world_model.specs.NameLists.{has, all_different, same_name}
+use Rattle.world_model.specs.NameLists.{has, all_different, same_name, members, begins_with}
 use Rattle.world_model.specs.World.{World, Removal, is_at, has_stage, left_in}
 use Rattle.world_model.specs.World as model
 use Rattle.world_model.specs.CollectorSteps.{Sweeps}
 use Rattle.world_model.specs.Histories.{after, state_of}
 use Rattle.world_model.proofs.ListFacts.{Among, among_append}
 use Rattle.world_model.proofs.NameFacts.{same_name_refl}
+use Rattle.world_model.proofs.Queues.{IsQueue, queue_start}
 use Rattle.heap_plain.specs.Types.{Name, Ref, Kind, Phase, Idle, Marking, Gathering, Collector, Swept, SweepStop, Entry}
 use Rattle.heap_plain.specs.Types.act
 use Rattle.heap_plain.specs.Types.sweep
 use Rattle.heap_plain.specs.declared.life.Life.{Life}
-use Rattle.heap_plain.specs.declared.life.Life.TheVariants.{Free, Live, Removed}
-use Rattle.heap_plain.specs.Parts.{Parts, Holds, name_at, life_at}
+use Rattle.heap_plain.specs.declared.life.Life.TheVariants.{Free, Live, Removed, Begun, Finished}
+use Rattle.heap_plain.specs.Parts.{Parts, Holds, name_at, life_at, is_gone}
+use Rattle.heap_plain.specs.Listing.{units_at, CanList, ListsUnits}
 use Rattle.heap_plain.specs.Sweeping.{removed_name, removed_names}
-use Rattle.heap_plain.specs.Sections.{Distinct, NamesShow, RemovedShow, removal_of, count_left}
+use Rattle.heap_plain.specs.Sections.{Distinct, NamesShow, RemovedShow, removal_at, count_left, OrderShows, QueueShows, GatherShows, AreNamed, ReadyAt, gone_world, todo_of, ring_of}
 use Rattle.heap_plain.specs.Plain.{Shows, IsPlain}
 use Rattle.heap_plain.proofs.WorldFacts.{has_among, among_has, among_left, among_right, among_test, no_longer}
 use Rattle.heap_plain.proofs.Entries.{plain_more, holds_more}
 use Rattle.heap_plain.proofs.Standing.{life_below}
 use Rattle.heap_plain.proofs.NewNames.{distinct_append}
 use Rattle.heap_plain.proofs.MarkSteps.{distinct_snoc}
+use Rattle.heap_plain.proofs.Finding.{removed_append}
+use Rattle.heap_plain.proofs.Queueing.{named_append}
+use Rattle.heap_plain.proofs.Gathering.{order_of, order_distinct, few_named, not_begun, units_named, links_within, order_all}
 
 -- ---- the names that are found
 
@@ -41,6 +47,8 @@ one_found names Removed (Some m) n (inr e) = absurd e
 one_found names Removed None n a = absurd a
 one_found names Live o n a = absurd a
 one_found names Free o n a = absurd a
+one_found names Begun o n a = absurd a
+one_found names Finished o n a = absurd a
 
 found_at : (names : List (Option Name)) (lives : List Life) (from count : ℕ) (n : Name) → Among (removed_names names lives from count) n → Found names lives from count n
 found_at names lives from zero n a = absurd a
@@ -71,10 +79,12 @@ distinct_found {names} ns lives from (suc count) = go (life_at lives (from + cou
     go Removed None e d = subst (λ (xs : List Name). Distinct xs) (sym (append-nil (removed_names names lives from count))) d
     go Live o e d = subst (λ (xs : List Name). Distinct xs) (sym (append-nil (removed_names names lives from count))) d
     go Free o e d = subst (λ (xs : List Name). Distinct xs) (sym (append-nil (removed_names names lives from count))) d
+    go Begun o e d = subst (λ (xs : List Name). Distinct xs) (sym (append-nil (removed_names names lives from count))) d
+    go Finished o e d = subst (λ (xs : List Name). Distinct xs) (sym (append-nil (removed_names names lives from count))) d
 
 -- ---- tests
 
-distinct_different : (names : List Name) → Distinct names → all_different names ≡ true
+pub distinct_different : (names : List Name) → Distinct names → all_different names ≡ true
 distinct_different [] d = refl
 distinct_different (n ∷ names) d = and_from _ _ (go (has names n) refl) (distinct_different names d.1)
   where
@@ -86,23 +96,17 @@ all_pass : {A : Type 0} (q : A → Bool) (xs : List A) → ((x : A) → Among xs
 all_pass q [] f = refl
 all_pass q (x ∷ xs) f = and_from (q x) _ (f x (inl refl)) (all_pass q xs (λ y a. f y (inr a)))
 
-name_among : (removals : List Removal) (r : Removal) → Among removals r → Among (map (λ (x : Removal). x.name) removals) r.name
+pub name_among : (removals : List Removal) (r : Removal) → Among removals r → Among (map (λ (x : Removal). x.name) removals) r.name
 name_among [] r a = absurd a
 name_among (x ∷ removals) r (inl e) = inl (ap (λ (y : Removal). y.name) e)
 name_among (x ∷ removals) r (inr a) = inr (name_among removals r a)
 
-among_name : (removals : List Removal) (n : Name) → Among (map (λ (x : Removal). x.name) removals) n → (r : Removal) × Among removals r × (r.name ≡ n)
+pub among_name : (removals : List Removal) (n : Name) → Among (map (λ (x : Removal). x.name) removals) n → (r : Removal) × Among removals r × (r.name ≡ n)
 among_name [] n a = absurd a
 among_name (x ∷ removals) n (inl e) = (x, inl refl, e)
 among_name (x ∷ removals) n (inr a) = let r = among_name removals n a in (r.0, inr r.1, r.2)
 
 -- ---- no collection gathers
-
-removed_same : (z : Sizes) (names : List (Option Name)) (lives : List Life) (left swept : ℕ) (phase : Phase) (removals : List Removal) (found : List Name) (looked : ℕ) → RemovedShow z names lives left swept phase removals found looked
-    → RemovedShow z names lives left swept phase removals (found ++ []) (looked + 0)
-removed_same z names lives left swept phase removals found looked k =
-    let same : looked ≡ looked + 0 = omega arith in
-    subst (λ (xs : List Name). RemovedShow z names lives left swept phase removals xs (looked + 0)) (sym (append-nil found)) (subst (λ (x : ℕ). RemovedShow z names lives left swept phase removals found x) same k)
 
 pub refuses_sweep : (z : Sizes) (p : Parts) (h : List Entry) (budget : ℕ) → IsPlain z p h → p.phase ≢ Gathering
     → IsPlain z p (h ++ record { pass = Collector; act = act.Sweep budget (record { looked = 0; found = 0; stop = sweep.NotGathering p.phase }) [] } ∷ [])
@@ -122,10 +126,20 @@ refuses_sweep z p h budget was other =
       idle = s.idle;
       marks = s.marks;
       roots_marked = s.roots_marked;
-      removed = removed_same _ _ _ _ _ _ _ _ _ s.removed;
+      classes = s.classes;
+      removed = subst₂ (λ (found : List Name) (looked : ℕ). RemovedShow z p.names p.lives p.polls p.left p.swept (after h).phase (after h).removals found looked) (sym (append-nil (after h).found)) (nothing (after h).swept) s.removed;
+      gone = s.gone;
+      order = s.order;
+      gathers = λ e. absurd (other e);
+      queue = λ e. subst (λ (found : List Name). QueueShows p.names p.order p.listed p.begun p.from p.kept p.done (after h).removals (after h).last_removed found (state_of h).collector.asked) (sym (append-nil (after h).found)) (s.queue e);
       free = s.free;
       none_agreed = refl;
+      none_asked = s.none_asked;
+      no_steps = refl;
     })
+  where
+    nothing : (looked : ℕ) → looked ≡ looked + 0
+    nothing looked = omega arith
 
 pub sweep_held : (h : List Entry) (names : List (Option Name)) (budget : ℕ) (reply : Swept) (found : List Name) (k : ℕ) (r : Ref) → Holds record { history = h; names = names } k r
     → Holds record { history = h ++ record { pass = Collector; act = act.Sweep budget reply found } ∷ []; names = names } k r
@@ -134,7 +148,7 @@ sweep_held h names budget reply found k r = holds_more h _ names k r (λ e. e)
 -- ---- a collection gathers
 
 module _ (z : Sizes) (p : Parts) (h : List Entry) (budget looked count : ℕ) (was : IsPlain z p h) (gathering : p.phase ≡ Gathering) (within : looked ≤ budget) (few : count ≤ looked) (range : p.swept + looked ≤ length p.lives)
-    (len : length (removed_names p.names p.lives p.swept looked) ≡ count) where
+    (len : length (removed_names p.names p.lives p.swept looked) ≡ count) (few_items : item_count z < 2 ^ 32) where
   abbrev s : Shows z p (state_of h)
   s = was.shows
 
@@ -144,21 +158,39 @@ module _ (z : Sizes) (p : Parts) (h : List Entry) (budget looked count : ℕ) (w
   phase_is : (after h).phase ≡ Gathering
   phase_is = sym s.phase ∙ gathering
 
-  found_low : (n : Name) → Among (after h).found n → (i : ℕ) × (i < p.swept) × (name_at p.names i ≡ Some n) × (life_at p.lives i ≡ Removed)
-  found_low n a = s.removed.found_are phase_is n a
+  -- the removed objects, in the phase that is
+  removed_is : RemovedShow z p.names p.lives p.polls p.left p.swept Gathering (after h).removals (after h).found (after h).swept
+  removed_is = subst (λ (phase : Phase). RemovedShow z p.names p.lives p.polls p.left p.swept phase (after h).removals (after h).found (after h).swept) phase_is s.removed
+
+  gathers : GatherShows p.names p.order p.listed p.begun p.done (after h).removals (after h).last_removed (after h).found
+  gathers = s.gathers gathering
+
+  abbrev found' : List Name
+  found' = (after h).found ++ names
+
+  -- all that is found, by rising index
+  found_now : (k : ℕ) → (after h).found ++ removed_names p.names p.lives p.swept k ≡ removed_names p.names p.lives 0 (p.swept + k)
+  found_now k = ap (λ (ns : List Name). ns ++ removed_names p.names p.lives p.swept k) (removed_is.found_is refl)
+      ∙ ap (λ (from : ℕ). removed_names p.names p.lives 0 p.swept ++ removed_names p.names p.lives from k) from_zero ∙ sym (removed_append p.names p.lives 0 p.swept k)
+    where
+      from_zero : p.swept ≡ 0 + p.swept
+      from_zero = omega arith
+
+  gone_removed : (i : ℕ) → is_gone (life_at p.lives i) ≡ true → life_at p.lives i ≡ Removed
+  gone_removed = not_begun s.names s.units removed_is s.gone
 
   apart : (n : Name) → Among (after h).found n → Among names n → ⊥
   apart n a b =
-      let low = found_low n a in
+      let low = found_at p.names p.lives 0 p.swept n (subst (λ (ns : List Name). Among ns n) (removed_is.found_is refl) a) in
       let high = found_at p.names p.lives p.swept looked n b in
-      let same = s.names.alone low.0 high.0 n low.2 high.3 in
-      absurd (omega (arith, low.1, high.1))
+      let same = s.names.alone low.0 high.0 n low.3 high.3 in
+      absurd (omega (arith, low.2, high.1))
 
   removed_now : (n : Name) → Among names n → is_at (after h) model.Removed n ≡ true
   removed_now n b =
       let at = found_at p.names p.lives p.swept looked n b in
-      let r = s.removed.removed at.0 n at.3 at.4 in
-      among_test (λ r. same_name n r.name && has_stage model.Removed r.stage) (after h).removals (removal_of n) r (let e = same_name_refl n in rw e refl)
+      let r = s.removed.removed at.0 n at.3 (ap is_gone at.4) in
+      among_test (λ r. same_name n r.name && has_stage model.Removed r.stage) (after h).removals (removal_at p.lives p.polls at.0 n) r (let e = same_name_refl n in rw (e, at.4) refl)
 
   fresh : (n : Name) → Among names n → not (has (after h).found n) ≡ true
   fresh n b = go (has (after h).found n) refl
@@ -178,23 +210,50 @@ module _ (z : Sizes) (p : Parts) (h : List Entry) (budget looked count : ℕ) (w
     new = all_pass (λ n. not (has (after h).found n)) names fresh;
   }
 
-  abbrev found' : List Name
-  found' = (after h).found ++ names
-
   distinct' : Distinct found'
-  distinct' = distinct_append (after h).found names s.removed.found_distinct (distinct_found s.names p.lives p.swept looked) apart
+  distinct' = subst (λ (ns : List Name). Distinct ns) (sym (found_now looked)) (distinct_found s.names p.lives 0 (p.swept + looked))
 
   found_are' : (n : Name) → Among found' n → (i : ℕ) × (i < p.swept + looked) × (name_at p.names i ≡ Some n) × (life_at p.lives i ≡ Removed)
-  found_are' n a = go (among_append (after h).found names n a)
-    where
-      go : Among (after h).found n ⊎ Among names n → (i : ℕ) × (i < p.swept + looked) × (name_at p.names i ≡ Some n) × (life_at p.lives i ≡ Removed)
-      go (inl b) = let r = found_low n b in (r.0, omega (arith, r.1), r.2, r.3)
-      go (inr b) = let r = found_at p.names p.lives p.swept looked n b in (r.0, r.2, r.3, r.4)
+  found_are' n a = let r = found_at p.names p.lives 0 (p.swept + looked) n (subst (λ (ns : List Name). Among ns n) (found_now looked) a) in (r.0, omega (arith, r.2), r.3, r.4)
 
   are_found' : (i : ℕ) (n : Name) → i < p.swept + looked → name_at p.names i ≡ Some n → life_at p.lives i ≡ Removed → Among found' n
-  are_found' i n b at life = dite (dec_le p.swept i)
-      (λ (le : p.swept ≤ i). among_right (after h).found names n (at_found p.names p.lives p.swept looked i n le b at life))
-      (λ (le : ¬ (p.swept ≤ i)). among_left (after h).found names n (s.removed.are_found phase_is i n (lt_of_not-le le) at life))
+  are_found' i n b at life = subst (λ (ns : List Name). Among ns n) (sym (found_now looked)) (at_found p.names p.lives 0 (p.swept + looked) i n (omega arith) (omega arith) at life)
+
+  -- ---- the queue
+
+  -- the members of the units that are found after k items
+  abbrev listed_now : ℕ → List ℕ
+  listed_now k = take p.listed p.order ++ units_at p.lives p.firsts p.sizes p.next p.swept k
+
+  named_now : (k : ℕ) → AreNamed p.names (listed_now k) (members (order_of (after h).last_removed ((after h).found ++ removed_names p.names p.lives p.swept k)))
+  named_now k =
+      let more = removed_names p.names p.lives p.swept k in
+      let spread : members (order_of (after h).last_removed ((after h).found ++ more)) ≡ members (order_of (after h).last_removed (after h).found) ++ members (order_of (after h).last_removed more) =
+      ap members (flat_map-append (λ n. filter (begins_with n) (after h).last_removed) (after h).found more)
+      ∙ flat_map-append (λ (u : List Name). u) (order_of (after h).last_removed (after h).found) (order_of (after h).last_removed more) in
+      subst (λ (ns : List Name). AreNamed p.names (listed_now k) ns) (sym spread)
+      (named_append p.names _ _ _ _ gathers.listed_at (units_named s.names s.units removed_is s.gone p.swept k))
+
+  distinct_now : (k : ℕ) → Distinct (members (order_of (after h).last_removed ((after h).found ++ removed_names p.names p.lives p.swept k)))
+  distinct_now k = order_distinct (after h).last_removed ((after h).found ++ removed_names p.names p.lives p.swept k) s.gone.distinct
+      (subst (λ (ns : List Name). Distinct ns) (sym (found_now k)) (distinct_found s.names p.lives 0 (p.swept + k)))
+
+  listed_fits : (k : ℕ) → p.listed + length (units_at p.lives p.firsts p.sizes p.next p.swept k) ≤ item_count z
+  listed_fits k =
+      let few = few_named p.names (listed_now k) _ (named_now k) (distinct_now k) in
+      let a = length-append (take p.listed p.order) (units_at p.lives p.firsts p.sizes p.next p.swept k) in
+      let b = length-take-le p.listed p.order (omega (arith, s.order.listed_few, s.order.len)) in
+      omega (arith, s.names.items)
+
+  pub can_list : CanList p.lives p.firsts p.sizes p.next p.swept looked p.listed (length p.order)
+  can_list = record {
+    few = omega (arith, range, s.units.lives_len, few_items);
+    by_life = range;
+    by_first = omega (arith, range, s.units.lives_len, s.units.firsts_len);
+    by_size = omega (arith, range, s.units.lives_len, s.units.sizes_len);
+    within = links_within s.names s.units removed_is s.gone;
+    fits = λ k b. omega (arith, listed_fits k, s.order.len);
+  }
 
   left_now : p.left ≡ length (after h).found
   left_now = go (after h).phase phase_is s.removed.left_is
@@ -221,8 +280,22 @@ module _ (z : Sizes) (p : Parts) (h : List Entry) (budget looked count : ℕ) (w
   abbrev more_entry : Entry
   more_entry = record { pass = Collector; act = act.Sweep budget more_reply names }
 
-  pub sweeps_more : p.swept + looked < length p.lives → IsPlain z (record p { swept = p.swept + looked; left = p.left + count }) (h ++ more_entry ∷ [])
-  sweeps_more below = plain_more z p _ h (more_entry ∷ []) was
+  order_now : (order : List ℕ) (all : ℕ) → ListsUnits p.lives p.firsts p.sizes p.next p.swept looked p.listed all p.order order → OrderShows z order all p.begun p.from p.kept
+  order_now order all lists = record {
+    len = lists.len ∙ s.order.len;
+    listed_few = omega (arith, lists.end, listed_fits looked);
+    begun_few = omega (arith, gathers.none_begun);
+    from_few = s.order.from_few;
+    kept_few = s.order.kept_few;
+    early = λ e. omega (arith, s.order.from_few, gathers.none_begun);
+  }
+
+  listed_at' : (order : List ℕ) (all : ℕ) → ListsUnits p.lives p.firsts p.sizes p.next p.swept looked p.listed all p.order order → AreNamed p.names (take all order) (members (order_of (after h).last_removed found'))
+  listed_at' order all lists = subst (λ (at : List ℕ). AreNamed p.names at (members (order_of (after h).last_removed found'))) (sym lists.order) (named_now looked)
+
+  pub sweeps_more : (order : List ℕ) (all : ℕ) → ListsUnits p.lives p.firsts p.sizes p.next p.swept looked p.listed all p.order order
+      → p.swept + looked < length p.lives → IsPlain z (record p { swept = p.swept + looked; left = p.left + count; order = order; listed = all }) (h ++ more_entry ∷ [])
+  sweeps_more order all lists below = plain_more z p _ h (more_entry ∷ []) was
       (record { finishes = s.none_agreed; may = (sweeps sweep.More, omega (arith, s.removed.swept_is, s.units.lives_len)) }, tt)
       (record {
         phase = s.phase;
@@ -236,21 +309,28 @@ module _ (z : Sizes) (p : Parts) (h : List Entry) (budget looked count : ℕ) (w
         idle = s.idle;
         marks = λ e. absurd (not_marking e);
         roots_marked = λ e. absurd (not_marking e);
+        classes = s.classes;
         removed = record {
           swept_is = ap (λ (k : ℕ). k + looked) s.removed.swept_is;
           swept_few = swept_below;
+          polls_len = s.removed.polls_len;
           removed = s.removed.removed;
           gone = s.removed.gone;
           distinct = s.removed.distinct;
-          found_distinct = distinct';
-          found_are = λ e. found_are';
-          are_found = λ e. are_found';
+          fresh = s.removed.fresh;
+          found_is = λ e. found_now looked;
           left_is = found_len ∙ sym (left_gathering phase_is);
           left_few = λ e. omega (arith, s.removed.left_few phase_is);
           none_left = s.removed.none_left;
         };
+        gone = s.gone;
+        order = order_now order all lists;
+        gathers = λ e. record { none_begun = gathers.none_begun; none_done = gathers.none_done; listed_at = listed_at' order all lists; all_there = gathers.all_there };
+        queue = λ e. absurd (let a = gathering in cc);
         free = s.free;
         none_agreed = refl;
+        none_asked = s.none_asked;
+        no_steps = refl;
       })
     where
       left_gathering : (after h).phase ≡ Gathering → count_left (after h).phase (after h).removals found' ≡ length found'
@@ -267,18 +347,29 @@ module _ (z : Sizes) (p : Parts) (h : List Entry) (budget looked count : ℕ) (w
   all_found : length p.lives ≤ p.swept + looked → (r : Removal) → Among (after h).removals r → Among found' r.name
   all_found all r a =
       let j = s.removed.gone r a in
-      are_found' j.0 r.name (omega (arith, life_below p.lives j.0 (λ free. let gone = j.2 in cc))) j.1 j.2
+      let removed = gone_removed j.0 j.2 in
+      are_found' j.0 r.name (omega (arith, life_below p.lives j.0 (λ free. cc))) j.1 removed
 
   same_length : length p.lives ≤ p.swept + looked → length found' ≡ length (after h).removals
   same_length all =
       let names_of : List Name = map (λ (x : Removal). x.name) (after h).removals in
       let len_names : length names_of ≡ length (after h).removals = length-map (after h).removals (λ (x : Removal). x.name) in
-      let up : length found' ≤ length names_of = no_longer found' names_of distinct' (λ n a. let j = found_are' n a in name_among (after h).removals (removal_of n) (s.removed.removed j.0 n j.2 j.3)) in
+      let up : length found' ≤ length names_of = no_longer found' names_of distinct' (λ n a. let j = found_are' n a in name_among (after h).removals (removal_at p.lives p.polls j.0 n) (s.removed.removed j.0 n j.2 (ap is_gone j.3))) in
       let down : length names_of ≤ length found' = no_longer names_of found' s.removed.distinct (λ n a. let r = among_name (after h).removals n a in subst (λ (x : Name). Among found' x) r.2 (all_found all r.0 r.1)) in
       omega arith
 
-  pub sweeps_all : length p.lives ≤ p.swept + looked → IsPlain z (record p { swept = p.swept + looked; left = p.left + count; phase = Idle }) (h ++ settled_entry ∷ [])
-  sweeps_all all = plain_more z p _ h (settled_entry ∷ []) was (
+  -- the queue of all that was removed
+  queue_now : length p.lives ≤ p.swept + looked → IsQueue (gone_world (after h).removals (after h).last_removed found') None (members (order_of (after h).last_removed found')) [] None
+  queue_now all = queue_start (gone_world (after h).removals (after h).last_removed found')
+      (distinct_different _ (distinct_now looked))
+      (distinct_different _ s.gone.distinct)
+      (distinct_different _ s.removed.distinct)
+      (removed_is.fresh refl)
+      (order_all s.names s.units removed_is s.gone found' gathers.all_there (λ i n at life. are_found' i n (omega (arith, life_below p.lives i (λ free. cc))) at life))
+
+  pub sweeps_all : (order : List ℕ) (end : ℕ) → ListsUnits p.lives p.firsts p.sizes p.next p.swept looked p.listed end p.order order
+      → length p.lives ≤ p.swept + looked → IsPlain z (record p { swept = p.swept + looked; left = p.left + count; order = order; listed = end; phase = Idle }) (h ++ settled_entry ∷ [])
+  sweeps_all order end lists all = plain_more z p _ h (settled_entry ∷ []) was (
     record {
       finishes = s.none_agreed;
       may = (sweeps sweep.Settled, omega (arith, s.removed.swept_is, s.units.lives_len), all_pass (λ r. has found' r.name) (after h).removals (λ r a. among_has found' r.name (all_found all r a)));
@@ -297,19 +388,41 @@ module _ (z : Sizes) (p : Parts) (h : List Entry) (budget looked count : ℕ) (w
         idle = λ ne. s.idle not_marking;
         marks = λ e. absurd cc;
         roots_marked = λ e. absurd cc;
+        classes = s.classes;
         removed = record {
           swept_is = ap (λ (k : ℕ). k + looked) s.removed.swept_is;
           swept_few = swept_below;
+          polls_len = s.removed.polls_len;
           removed = s.removed.removed;
           gone = s.removed.gone;
           distinct = s.removed.distinct;
-          found_distinct = distinct';
-          found_are = λ e. absurd cc;
-          are_found = λ e. absurd cc;
+          fresh = λ e. absurd cc;
+          found_is = λ e. absurd cc;
           left_is = found_len ∙ same_length all;
           left_few = λ e. absurd cc;
           none_left = λ e. absurd cc;
         };
+        gone = s.gone;
+        order = order_now order end lists;
+        gathers = λ e. absurd cc;
+        queue = λ e. record {
+          todo = members (order_of (after h).last_removed found');
+          ring = [];
+          ready = None;
+          todo_at = subst (λ (k : ℕ). AreNamed p.names (todo_of order end k) (members (order_of (after h).last_removed found'))) (sym gathers.none_begun) (listed_at' order end lists);
+          ring_at = subst (λ (b : ℕ). AreNamed p.names (ring_of order b p.from p.kept) []) (sym gathers.none_begun) (subst₂ (λ (f k : ℕ). AreNamed p.names (ring_of order 0 f k) []) none_from none_kept tt);
+          ready_at = subst (λ (done : Option ℕ). ReadyAt p.names done None) (sym gathers.none_done) tt;
+          queue = subst (λ (last : Option Name). IsQueue (gone_world (after h).removals (after h).last_removed found') last (members (order_of (after h).last_removed found')) [] None)
+              (sym (s.none_asked (λ e. let a = gathering in cc))) (queue_now all);
+        };
         free = s.free;
         none_agreed = refl;
+        none_asked = λ ne. absurd (ne refl);
+        no_steps = refl;
       })
+    where
+      none_from : 0 ≡ p.from
+      none_from = omega (arith, s.order.from_few, gathers.none_begun)
+
+      none_kept : 0 ≡ p.kept
+      none_kept = omega (arith, s.order.from_few, s.order.kept_few, gathers.none_begun)

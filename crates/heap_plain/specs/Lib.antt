@@ -2,12 +2,14 @@
 pub mod Types
 -- the vectors of a plain heap, and what callers see of them
 pub mod Parts
--- what the vectors show of the state that a history leaves
-pub mod Sections
-pub mod Plain
 -- what the functions over the vectors do
 pub mod Filling
 pub mod Stacks
 pub mod Creation
 pub mod Notes
 pub mod Sweeping
+pub mod Listing
+pub mod Purging
+-- what the vectors show of the state that a history leaves
+pub mod Sections
+pub mod Plain

@@ -1,11 +1,14 @@
 -- The vectors of a plain heap, and what contracts see of them.
-use Rattle.std.specs.Prelude.{◌≡◌, ℕ, ◌<◌, Bool, true, false, List, length, get_or, Option, Some, None}
+use Rattle.std.specs.Prelude.{◌≡◌, ℕ, ◌<◌, Bool, true, false, List, length, get_or, slice_get, unwrap_or, Option, Some, None}
+use Rattle.std.specs.Option.{option_map_or}
 use Rattle.std.proofs.Common.{ap, ◌∙◌}
-use Rattle.heap_plain.specs.Types.{Name, Ref, Entry, Phase, Marking}
+use Rattle.heap_plain.specs.Types.{Name, Ref, ClassId, Kind, Entry, Phase, Marking}
 use Rattle.world_model.specs.Histories.{state_of}
+use Rattle.world_model.specs.World.{Stage}
+use Rattle.world_model.specs.World as world
 use Rattle.world_model.specs.State as model
 use Rattle.heap_plain.specs.declared.life.Life.{Life}
-use Rattle.heap_plain.specs.declared.life.Life.TheVariants.{Free, Removed}
+use Rattle.heap_plain.specs.declared.life.Life.TheVariants.{Free, Live, Removed, Begun, Finished}
 
 -- ---- what contracts see
 
@@ -41,6 +44,7 @@ pub record Parts : Type 0 where
   pub firsts : List ℕ
   pub sizes : List ℕ
   pub next : List ℕ
+  pub classes : List ClassId
   pub lives : List Life
   pub roots : List Bool
   pub marked : List Bool
@@ -54,6 +58,14 @@ pub record Parts : Type 0 where
   pub phase : Phase
   pub left : ℕ
   pub swept : ℕ
+  pub order : List ℕ
+  pub listed : ℕ
+  pub begun : ℕ
+  pub from : ℕ
+  pub kept : ℕ
+  pub polls : List ℕ
+  pub waiting : List ℕ
+  pub done : Option ℕ
 
 -- the index of the first member of the unit of the object at an index
 abbrev pub first_at : List ℕ → ℕ → ℕ
@@ -69,6 +81,30 @@ life_at lives i = get_or lives i Free
 abbrev pub is_removed : Life → Bool
 is_removed Removed = true
 is_removed _ = false
+
+-- an object stands there that is removed and not released
+abbrev pub is_gone : Life → Bool
+is_gone Removed = true
+is_gone Begun = true
+is_gone Finished = true
+is_gone _ = false
+
+-- how far its destruction is
+abbrev pub stage_of : Life → Stage
+stage_of Begun = world.Begun
+stage_of Finished = world.Finished
+stage_of _ = world.Removed
+
+-- the name at an index at which there is one
+abbrev pub name_of : List (Option Name) → ℕ → Name
+name_of names i = unwrap_or (name_at names i) (record { lane = 0; count = 0 })
+
+-- the class of the object at an index, and that of the kind at a place
+abbrev pub class_at : List ClassId → ℕ → ClassId
+class_at classes i = get_or classes i (record { 0 = 0 })
+
+abbrev pub kind_class : List Kind → ℕ → ClassId
+kind_class kinds k = option_map_or (λ kind. kind.class) (slice_get kinds k) (record { 0 = 0 })
 
 abbrev pub is_marking : Phase → Bool
 is_marking Marking = true

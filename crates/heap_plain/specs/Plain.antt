@@ -1,12 +1,15 @@
 -- The invariant of a plain heap.
-use Rattle.std.specs.Prelude.{◌≡◌, ◌≢◌, List, None}
-use Rattle.heap_plain.specs.Types.{Entry, Marking}
+use Rattle.std.specs.Prelude.{◌≡◌, ◌≢◌, ℕ, ◌++◌, List, Option, None, true, count_by}
+use Rattle.std.specs.List.{list_all, AllByRecursion}
+use Rattle.heap_plain.specs.Types.{Ref, HookCall, Act, Entry, Collector, Idle, Marking, Gathering}
 use Rattle.world_model.specs.Sizes.{Sizes}
 use Rattle.world_model.specs.NameLists.{members}
 use Rattle.world_model.specs.State.{State}
-use Rattle.world_model.specs.Histories.{Legal, state_of}
-use Rattle.heap_plain.specs.Parts.{Parts}
-use Rattle.heap_plain.specs.Sections.{Distinct, FramesShow, NamesShow, UnitsShow, RootsShow, HeldShow, WorkShows, MarksShow, RootsMarked, RemovedShow, FreeShows, pushed_of, grey_of}
+use Rattle.world_model.specs.Histories.{Legal, after, state_of}
+use Rattle.world_model.specs.Calls.{by, is_purge_part, is_purge_step}
+use Rattle.world_model.specs.Hooks.{ReadyTest, SameTest, AreCalledFor, Meets}
+use Rattle.heap_plain.specs.Parts.{Parts, Shown, Holds}
+use Rattle.heap_plain.specs.Sections.{Distinct, FramesShow, NamesShow, UnitsShow, RootsShow, HeldShow, WorkShows, MarksShow, RootsMarked, RemovedShow, GoneShow, ClassesShow, OrderShows, QueueShows, GatherShows, FreeShows, pushed_of, grey_of}
 
 -- the vectors show the state
 pub record Shows (z : Sizes) (p : Parts) (s : State) : Type 0 where
@@ -21,11 +24,40 @@ pub record Shows (z : Sizes) (p : Parts) (s : State) : Type 0 where
   pub idle : p.phase ≢ Marking → p.scanned ≡ p.pushed
   pub marks : p.phase ≡ Marking → MarksShow p.names p.firsts p.sizes p.next p.lives s.world.units p.marked (pushed_of p.work p.pushed) (grey_of p.work p.scanned p.pushed) s.marks.kept s.marks.fresh s.marks.scanned
   pub roots_marked : p.phase ≡ Marking → RootsMarked p.firsts p.roots p.marked
-  pub removed : RemovedShow z p.names p.lives p.left p.swept s.world.phase s.world.removals s.world.found s.world.swept
+  pub classes : ClassesShow z p.names p.classes s.world.kinds
+  pub removed : RemovedShow z p.names p.lives p.polls p.left p.swept s.world.phase s.world.removals s.world.found s.world.swept
+  pub gone : GoneShow z p.names p.firsts p.sizes p.next p.waiting p.lives s.world.removals s.world.last_removed
+  pub order : OrderShows z p.order p.listed p.begun p.from p.kept
+  pub gathers : p.phase ≡ Gathering → GatherShows p.names p.order p.listed p.begun p.done s.world.removals s.world.last_removed s.world.found
+  pub queue : p.phase ≡ Idle → QueueShows p.names p.order p.listed p.begun p.from p.kept p.done s.world.removals s.world.last_removed s.world.found s.collector.asked
   pub free : FreeShows z p.names p.lives p.free p.spare s.world.units s.world.removals
   pub none_agreed : s.collector.agreed ≡ None
+  pub none_asked : p.phase ≢ Idle → s.collector.asked ≡ None
+  pub no_steps : s.collector.steps ≡ 0
 
 -- the history is legal, and the vectors show the state that it leaves
 pub record IsPlain (z : Sizes) (p : Parts) (history : List Entry) : Type 0 where
   pub legal : Legal z history
   pub shows : Shows z p (state_of history)
+
+-- ---- in the midst of a purge
+
+-- the state as if no step of destruction came last
+abbrev pub calm : State → State
+calm s = record s { collector = record (s.collector) { steps = 0 } }
+
+-- A purge has made so many steps since the history was `old`, and its hooks were called for them.
+pub record IsPurging (z : Sizes) (old : Shown) (before now : Option (List HookCall)) (was test : ReadyTest) (steps : ℕ) (p : Parts) (history : List Entry) : Type 0 where
+  pub parts : List Act
+  pub grown : history ≡ old.history ++ by Collector parts
+  pub only : list_all is_purge_part parts ≡ true
+  pub counted : steps ≡ count_by is_purge_step parts
+  pub legal : Legal z history
+  pub shows : Shows z p (calm (state_of history))
+  pub ran : (state_of history).collector.steps ≡ steps
+  pub kinds : (after history).kinds ≡ (after old.history).kinds
+  pub gathered : p.phase ≢ Gathering
+  pub held : (lane : ℕ) (r : Ref) → Holds old lane r → Holds (record { history = history; names = p.names }) lane r
+  pub called : AreCalledFor (after old.history) (by Collector parts) before now
+  pub tested : AllByRecursion (λ e. Meets (after old.history) was e.act) (by Collector parts)
+  pub same : SameTest was test

@@ -5,9 +5,10 @@ ghost use Rattle.world_model.specs.Engines.{act_of_refusal};
 ghost use Rattle.heap_plain.specs.Filling.{Filled, FilledAt};
 ghost use Rattle.heap_plain.specs.Stacks.{CanPop, popped};
 ghost use Rattle.heap_plain.specs.Creation.{Decides};
+ghost use Rattle.heap_plain.specs.Parts.{kind_class};
 
 use crate::stacks::popped;
-use world_model::{CreateErr, Diary, Name, Pass, Ref};
+use world_model::{ClassId, CreateErr, Diary, Kind, Name, Pass, Ref};
 
 /// Whether `asked` objects may be made where `left` names are left and `free` indexes are free.
 pub(crate) fn decide(asked: u32, left: u64, free: u32) -> Result<(), CreateErr>
@@ -67,6 +68,16 @@ pub(crate) fn fill_popped<T: Copy + Drop>(
 {
     for k in 0..count {
         items[popped(free, top, k) as usize] = value;
+    }
+}
+
+/// Writes the classes of these kinds to the places that the stack gives.
+pub(crate) fn classify(classes: &mut Vec<ClassId>, free: &[u32], top: usize, kinds: &[Kind])
+    requires stack { CanPop free.now top (length kinds.now) (length classes.old.items) }
+    ensures { FilledAt classes.old.items classes.new.items (popped free.now top) (length kinds.now) (kind_class kinds.now) }
+{
+    for k in 0..kinds.len() {
+        classes[popped(free, top, k) as usize] = kinds[k].class;
     }
 }
 

@@ -1,5 +1,5 @@
 //! Vectors of one value.
-ghost use Rattle.std.specs.Prelude.{◌≡◌, ◌+◌, ◌≤◌, IfOk, length, replicate};
+ghost use Rattle.std.specs.Prelude.{◌≡◌, ◌+◌, ◌≤◌, IfOk, get_or, length, replicate};
 ghost use Rattle.heap_plain.specs.Filling.{Filled};
 
 use std::alloc::{AllocError, Global};
@@ -27,5 +27,15 @@ pub(crate) fn fill<T: Copy + Drop>(items: &mut Vec<T>, from: usize, count: usize
 {
     for k in 0..count {
         items[from + k] = value;
+    }
+}
+
+/// Writes the numbers of `from` over those of `items`.
+pub(crate) fn copy(items: &mut Vec<u32>, from: &[u32])
+    requires { length items.old.items ≡ length from.now }
+    ensures { Filled items.old.items items.new.items 0 (length from.now) (λ k. get_or from.now k 0) }
+{
+    for k in 0..from.len() {
+        items[k] = from[k];
     }
 }

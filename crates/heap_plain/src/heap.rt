@@ -2,28 +2,32 @@
 ghost use Rattle.std.specs.Prelude.{◌≡◌, ℕ, ◌+◌, ◌*◌, ◌<◌, [], IfOk};
 ghost use Rattle.heap_plain.specs.Parts.{HoldsNothing};
 
-use crate::creating::{answer, decide, fill_popped, link, place, refuse};
-use crate::filled::{fill, filled};
+use crate::creating::{answer, classify, decide, fill_popped, link, place, refuse};
+use crate::filled::{copy, fill, filled};
 use crate::frames::count_open;
 use crate::life::Life;
-use crate::marking::{is_done, keep_roots, may_end, may_start, scan_units, starts, stop_of};
+use crate::listing::list_units;
+use crate::marking::{is_done, keep_roots, may_end, may_start, named, scan_units, starts, stop_of};
+use crate::purging::{ask_at, begin_at, finish_at, release, turned};
 use crate::rooting::{must_mark, store};
 use crate::stacks::{full_stacks, popped};
 use crate::sweeping::{find_removed, remove_white};
 use std::alloc::{AllocError, Global};
 use std::marker::{Model, PhantomData};
 use world_model::{
-    Begin, Commit, CreateErr, Diary, Engine, Kind, Marked, Name, Pass, Phase, Ref, Shape,
-    SweepStop, Swept,
+    Begin, ClassId, Commit, CreateErr, Diary, Engine, Hooks, Kind, Marked, Name, Pass, Phase,
+    Purged, Ref, Shape, SweepStop, Swept,
 };
 
 /// A world of objects over vectors, for one owner.
 ///
 /// All memory is taken by `new`: for each index of the shape its name, the first index and the
-/// size of its unit, the index of the next member, whether it lives, its root bit, its mark bit, a
-/// place of the worklist and one of the stack of free indexes.
+/// size of its unit, the index of the next member, its class, whether it lives, its root bit, its
+/// mark bit, the number of its polls, the number of members that its unit waits for, a place of
+/// the worklist, one of the stack of free indexes and one of the queue of destruction.
 /// Opening and closing a frame, setting a root and making a unit cost as many steps as they have
-/// objects; a slice of marking as many as it scans units; the rest looks at all items.
+/// objects; a slice of marking as many as it scans units; a step of destruction as many as it has
+/// objects; the rest looks at all items.
 #[derive(Drop)]
 pub struct PlainHeap<S: Shape> {
     /// The name at each index, while its object is not released.
@@ -33,6 +37,7 @@ pub struct PlainHeap<S: Shape> {
     sizes: Vec<u32>,
     /// At the index of each member of a unit but the last that of the next one.
     next: Vec<u32>,
+    classes: Vec<ClassId>,
     lives: Vec<Life>,
     roots: Vec<bool>,
     /// At the index of the first member of a unit whether the unit is marked.
@@ -54,6 +59,20 @@ pub struct PlainHeap<S: Shape> {
     /// items the sweeps since the last commit have looked at.
     left: u32,
     swept: u32,
+    /// The queue of destruction: indexes of removed objects. The first `kept` are those that were
+    /// asked in this round and are not finished, those from `from` to `begun` the others that are
+    /// begun and not finished, and those from there to `listed` the ones that are not begun.
+    order: Vec<u32>,
+    listed: usize,
+    begun: usize,
+    from: usize,
+    kept: usize,
+    /// How often each removed object was asked, and at the index of the first member of a removed
+    /// unit how many of its members are not finished.
+    polls: Vec<u32>,
+    waiting: Vec<u32>,
+    /// The unit that is to be released, by the index of its first member.
+    done: Option<u32>,
     diary: Diary,
     shape: PhantomData<S>,
 }
@@ -72,6 +91,7 @@ impl<S: Shape> Model for PlainHeap<S> {
       firsts = h.firsts.items;
       sizes = h.sizes.items;
       next = h.next.items;
+      classes = h.classes.items;
       lives = h.lives.items;
       roots = h.roots.items;
       marked = h.marked.items;
@@ -85,6 +105,14 @@ impl<S: Shape> Model for PlainHeap<S> {
       phase = h.phase;
       left = h.left;
       swept = h.swept;
+      order = h.order.items;
+      listed = h.listed;
+      begun = h.begun;
+      from = h.from;
+      kept = h.kept;
+      polls = h.polls.items;
+      waiting = h.waiting.items;
+      done = h.done;
     }) h.diary };
 }
 
@@ -102,6 +130,7 @@ impl<S: Shape> PlainHeap<S> {
             firsts: filled(alloc, items, 0)?,
             sizes: filled(alloc, items, 0)?,
             next: filled(alloc, items, 0)?,
+            classes: filled(alloc, items, ClassId(0))?,
             lives: filled(alloc, items, Life::Free)?,
             roots: filled(alloc, items, false)?,
             marked: filled(alloc, items, false)?,
@@ -115,6 +144,14 @@ impl<S: Shape> PlainHeap<S> {
             phase: Phase::Idle,
             left: 0,
             swept: 0,
+            order: filled(alloc, items, 0)?,
+            listed: 0,
+            begun: 0,
+            from: 0,
+            kept: 0,
+            polls: filled(alloc, items, 0)?,
+            waiting: filled(alloc, items, 0)?,
+            done: None,
             diary: Diary::new(alloc)?,
             shape: PhantomData,
         })
@@ -156,6 +193,7 @@ impl<S: Shape> Engine<S> for PlainHeap<S> {
         let head = popped(&self.free, top, 0);
         place(&mut self.names, &self.free, top, asked, lane, made + 1);
         fill_popped(&mut self.firsts, &self.free, top, asked, head);
+        classify(&mut self.classes, &self.free, top, kinds);
         fill_popped(&mut self.lives, &self.free, top, asked, Life::Live);
         link(&mut self.next, &self.free, top, asked);
         self.sizes[head as usize] = asked as u32;
@@ -239,6 +277,14 @@ impl<S: Shape> Engine<S> for PlainHeap<S> {
             self.phase = Phase::Gathering;
             self.left = 0;
             self.swept = 0;
+            self.listed = 0;
+            self.begun = 0;
+            self.from = 0;
+            self.kept = 0;
+            self.done = None;
+            let items = self.polls.len();
+            fill(&mut self.polls, 0, items, 0);
+            copy(&mut self.waiting, &self.sizes);
             remove_white(&self.firsts, &self.marked, &mut self.lives);
             return Commit::Done;
         }
@@ -265,6 +311,16 @@ impl<S: Shape> Engine<S> for PlainHeap<S> {
             budget,
             found,
         );
+        self.listed = list_units(
+            &self.lives,
+            &self.firsts,
+            &self.sizes,
+            &self.next,
+            self.swept as usize,
+            looked as usize,
+            &mut self.order,
+            self.listed,
+        );
         self.swept += looked;
         self.left += count;
         if (self.swept as usize) < self.lives.len() {
@@ -285,6 +341,83 @@ impl<S: Shape> Engine<S> for PlainHeap<S> {
         };
         self.diary
             .sweep(Pass::Collector, budget, reply, &found[..count as usize]);
+        reply
+    }
+
+    fn purge<D: Hooks>(&mut self, hooks: &mut D, budget: u32) -> Purged {
+        match self.phase {
+            Phase::Gathering => {
+                self.diary
+                    .purge_gc(Pass::Collector, budget, Purged::Gathering);
+                return Purged::Gathering;
+            }
+            _ => {}
+        }
+        let mut steps = 0;
+        while steps < budget && self.left > 0 {
+            steps += 1;
+            if self.begun < self.listed {
+                let index = self.order[self.begun] as usize;
+                self.begun += 1;
+                begin_at(
+                    &self.names,
+                    &self.classes,
+                    &mut self.lives,
+                    index,
+                    hooks,
+                    &mut self.diary,
+                );
+                continue;
+            }
+            if let Some(head) = self.done {
+                let size = self.sizes[head as usize];
+                self.done = None;
+                self.left -= size;
+                self.diary
+                    .released(Pass::Collector, named(&self.names, head as usize));
+                release(
+                    &mut self.names,
+                    &mut self.lives,
+                    &mut self.free,
+                    &mut self.spare,
+                    &self.next,
+                    S::QUOTA,
+                    head,
+                    size,
+                );
+                continue;
+            }
+            let (end, from, kept) = turned(self.begun, self.from, self.kept);
+            self.listed = end;
+            self.begun = end;
+            self.kept = kept;
+            let index = self.order[from];
+            self.from = from + 1;
+            let agreed = ask_at(
+                &self.names,
+                &self.classes,
+                &mut self.polls,
+                index as usize,
+                hooks,
+                &mut self.diary,
+            );
+            if agreed {
+                self.done = finish_at(
+                    &self.firsts,
+                    &mut self.lives,
+                    &mut self.waiting,
+                    index as usize,
+                );
+                continue;
+            }
+            self.order[kept] = index;
+            self.kept = kept + 1;
+        }
+        let reply = Purged::Ran {
+            steps,
+            left: self.left,
+        };
+        self.diary.purge_gc(Pass::Collector, budget, reply);
         reply
     }
 }

@@ -7,6 +7,10 @@ pub(crate) enum Life {
     Free,
     /// An object that lives.
     Live,
-    /// An object that a commit removed, and that is not released.
+    /// An object that a commit removed, and that is not begun.
     Removed,
+    /// A removed object that was told to begin its destruction.
+    Begun,
+    /// A removed object that has finished its destruction, and that is not released.
+    Finished,
 }

@@ -10,12 +10,14 @@ ghost use Rattle.world_model.specs.State.{Holds};
 ghost use Rattle.world_model.specs.LaneSteps.{is_lawful};
 ghost use Rattle.world_model.specs.Histories.{state_of, after};
 ghost use Rattle.world_model.specs.Calls.{Appends};
+ghost use Rattle.world_model.specs.Hooks.{SameTest, AreCalled, MeetTest};
 ghost use Rattle.world_model.specs.Engines.{IsInFrame, no_slice, KeepsHeld, KeepsOthers, act_of_create};
 
+use crate::hooks::Hooks;
 use crate::kind::Kind;
 use crate::name::{Name, Ref};
 use crate::pass::Phase;
-use crate::reply::{Begin, Commit, CreateErr, Marked, Swept};
+use crate::reply::{Begin, Commit, CreateErr, Marked, Purged, Swept};
 use crate::shape::Shape;
 
 /// A world of objects, whichever way it is kept.
@@ -112,6 +114,22 @@ pub trait Engine<S: Shape> {
         ensures room { result.found ≤ length found.old }
         ensures rest { drop result.found found.new ≡ drop result.found found.old }
         ensures more { result.stop ≡ sweep.More → (result.looked ≡ budget) ⊎ (result.found ≡ length found.old) }
+        ensures held { KeepsHeld (holds self.old) (holds self.new) };
+
+    /// Makes up to `budget` steps of destruction. A step is the first of these that there is: the
+    /// first object that is not begun gets the hook `begin`; the first unit whose members are all
+    /// finished is released; the next object in turn that is not finished gets the hook `ready`
+    /// with the number of its poll, and in the same step `finish` where that answers true.
+    ///
+    /// The order of the objects is that in which the sweeps found the first members of their units,
+    /// and the turns begin behind the object that was asked last. There are fewer steps than
+    /// `budget` only where no removed object is left, and none, with the answer `Gathering`, while
+    /// removed objects are being found. `left` counts the removed objects that are not released.
+    fn purge<D: Hooks>(&mut self, hooks: &mut D, budget: u32) -> Purged
+        ensures entries { Appends S.sizes (history self.old) (history self.new) Collector (act.PurgeGc budget result) }
+        ensures calls { AreCalled (after (history self.old)) (history self.old) (history self.new) (D.calls hooks.old) (D.calls hooks.new) }
+        ensures tested { MeetTest (after (history self.old)) (history self.old) (history self.new) (D.test hooks.old) }
+        ensures same_test { SameTest (D.test hooks.old) (D.test hooks.new) }
         ensures held { KeepsHeld (holds self.old) (holds self.new) };
 
     /// What a lane holds, the history gave it since it opened its frame.

@@ -1,5 +1,5 @@
 -- Slices and sweeps, one more at a time.
-use Rattle.std.proofs.Common.{◌≡◌, ◌≢◌, ℕ, ◌+◌, ◌-◌, ◌<◌, ◌≤◌, List, [], ◌∷◌, ◌++◌, append_assoc, append-nil, flat_map, map, length, length-append, IsTrue, refl, sym, ap, ◌∙◌, subst, arith, ◌⊎◌, inl, inr}
+use Rattle.std.proofs.Common.{◌≡◌, ◌≢◌, ℕ, ◌+◌, ◌-◌, ◌*◌, ◌<◌, ◌≤◌, List, [], ◌∷◌, ◌++◌, append_assoc, append-nil, flat_map, map, length, length-append, IsTrue, refl, sym, ap, ◌∙◌, subst, arith, ◌⊎◌, inl, inr}
 use Rattle.std.specs.Prelude.{Result, Ok, Err, IfOk, OnErr}
 use Rattle.std.proofs.lemmas.Grind.{flat_map-append}
 use Rattle.world_model.specs.Sizes.{Sizes, item_count}
@@ -21,7 +21,7 @@ use Rattle.world_play.specs.Types.cmd
 use Rattle.world_play.specs.Types.act
 use Rattle.world_play.specs.Types.stop
 use Rattle.world_play.specs.Types.sweep
-use Rattle.world_play.specs.Plays.{Bindings, SlicesSpent, SweepsMore, SweepsAll, IsPiece, IsPart, first_begin, full_reply}
+use Rattle.world_play.specs.Plays.{Bindings, SlicesSpent, SweepsMore, SweepsAll, PurgesAll, first_begin, full_reply}
 use Rattle.world_play.specs.Turns.{Broken}
 use Rattle.world_play.specs.Stages.{IsMarking, Marks, MarksOn, IsGathering, Finds, FindsOn, FindsSome, GoesOn, GoesOnSome, Collects}
 
@@ -186,8 +186,11 @@ finds_all z old mid new budget reply found names on h other =
       names = swept_names z old mid new budget reply found names on.names h;
       few = omega (arith, on.few, may.0.looked, may.1, length-append found names);
       opened = ap (λ (s : State). s.world.opened) (state_after_one z mid new Collector (act.Sweep budget reply names) h h.call) ∙ on.opened;
-      legal = h.legal;
-      alone = slices_closed z mid new Collector (act.Sweep budget reply names) h on.now.alone;
+      now = record {
+        legal = h.legal;
+        alone = slices_closed z mid new Collector (act.Sweep budget reply names) h on.now.alone;
+        idle = ap (λ (s : State). s.world.phase) (state_after_one z mid new Collector (act.Sweep budget reply names) h h.call) ∙ ap (λ (why : SweepStop). settled (after mid).phase why) settled_now;
+      };
     }
 
 -- after one more sweep some sweeps were made, or all
@@ -260,60 +263,58 @@ pieces old mid new a b c begins begun grown =
     ∙ append_assoc old ((begins ++ a) ++ b) c
 
 -- the first entry of these pieces says that the collection began
-begun_first : (acts : List Act) (of : List Name) (a b c : List Entry) → acts ≡ act.BeginGc begin.Started ∷ map act.Kept of → first_begin (((by Collector acts ++ a) ++ b) ++ c) ≡ begin.Started
-begun_first acts of a b c are = ap (λ (xs : List Act). first_begin (((by Collector xs ++ a) ++ b) ++ c)) are
+begun_first : (acts : List Act) (of : List Name) (a b c d : List Entry) → acts ≡ act.BeginGc begin.Started ∷ map act.Kept of → first_begin ((((by Collector acts ++ a) ++ b) ++ c) ++ d) ≡ begin.Started
+begun_first acts of a b c d are = ap (λ (xs : List Act). first_begin ((((by Collector xs ++ a) ++ b) ++ c) ++ d)) are
 
-pub collects_all : (z : Sizes) (budget : ℕ) (old mid new : List Entry) (before between now : Holdings) (r : Reply) → Appends z old mid Collector (act.BeginGc begin.Started) → KeepsHeld before between → GoesOn z budget mid new between now r → Collects z budget old new before now r
-collects_all z budget old mid new before between now r h held on =
+pub collects_all : (z : Sizes) (budget classes : ℕ) (old mid new : List Entry) (before between now : Holdings) (r : Reply) → Appends z old mid Collector (act.BeginGc begin.Started) → KeepsHeld before between → GoesOn z budget classes mid new between now r → Collects z budget classes old new before now r
+collects_all z budget classes old mid new before between now r h held on =
     let begins : List Entry = by Collector h.acts in
     let marks : List Entry = flat_map (by (Marker 0)) on.slices in
     let ends : List Entry = by Collector (act.CommitGc commit.Done ∷ []) in
     let finds : List Entry = by Collector on.sweeps in
-    let piece : List Entry = ((begins ++ marks) ++ ends) ++ finds in
-    let grown : new ≡ old ++ piece = pieces old mid new marks ends finds begins h.grown on.grown in
-    let left : state_of new ≡ run (state_of old) piece = ap state_of grown ∙ run-append beginning old piece in
+    let swept : List Entry = ((begins ++ marks) ++ ends) ++ finds in
+    let purges : List Entry = flat_map (by Collector) on.destroys.purges in
+    let front : on.front ≡ old ++ swept = pieces old mid on.front marks ends finds begins h.grown on.grown in
+    let grown : new ≡ old ++ (swept ++ purges) = on.destroys.grown ∙ ap (λ (es : List Entry). es ++ purges) front ∙ append_assoc old swept purges in
+    let left : state_of new ≡ run (state_of old) (swept ++ purges) = ap state_of grown ∙ run-append beginning old (swept ++ purges) in
+    let state : state_of on.front ≡ run (state_of old) swept = ap state_of front ∙ run-append beginning old swept in
     record {
-      piece = piece;
+      piece = swept ++ purges;
       grown = grown;
       calls = inr (record {
         begins = h.acts;
         slices = on.slices;
         sweeps = on.sweeps;
+        purges = on.destroys.purges;
+        front = swept;
         begun = h.call;
         marked = subst (λ (s : State). SlicesUntilIdle s budget on.slices) (state_after z old mid Collector (act.BeginGc begin.Started) h) on.marked;
         swept = on.swept;
+        found = refl;
+        purged = subst (λ (s : State). PurgesAll budget classes (103 * length s.world.found) s on.destroys.purges) state on.destroys.purged;
         are = refl;
       });
-      answer = on.answer ∙ λ i. full_reply (left i).world (sym (begun_first h.acts h.call.of marks ends finds h.call.are) i);
-      legal = on.legal;
-      alone = on.alone;
-      opened = on.opened ∙ (started_world z old mid h).1 ∙ sym (start_closed z old mid h);
+      answer = on.answer ∙ λ i. full_reply (left i).world (sym (begun_first h.acts h.call.of marks ends finds purges h.call.are) i);
+      legal = on.destroys.legal;
+      alone = on.destroys.alone;
+      opened = on.destroys.opened ∙ on.opened ∙ (started_world z old mid h).1 ∙ sym (start_closed z old mid h);
       held = λ lane ref is. on.held lane ref (held lane ref is);
     }
 
 -- a collection that was begun and not told to its end
-pub collects_some : (z : Sizes) (budget : ℕ) (old mid new : List Entry) (names : Bindings) → Appends z old mid Collector (act.BeginGc begin.Started) → GoesOnSome z budget mid new → Broken z budget old new names who.Gc cmd.GcFull
-collects_some z budget old mid new names h on =
+pub collects_some : (z : Sizes) (budget classes : ℕ) (old mid new : List Entry) (names : Bindings) → Appends z old mid Collector (act.BeginGc begin.Started) → GoesOnSome z budget mid new → Broken z budget classes old new names who.Gc cmd.GcFull
+collects_some z budget classes old mid new names h on =
     let begins : List Entry = by Collector h.acts in
     let marks : List Entry = flat_map (by (Marker 0)) on.slices in
     let ends : List Entry = by Collector (act.CommitGc commit.Done ∷ []) in
     let finds : List Entry = by Collector on.sweeps in
+    let marked = subst (λ (s : State). SlicesUntilIdle s budget on.slices) (state_after z old mid Collector (act.BeginGc begin.Started) h) on.marked in
     record {
       part = ((begins ++ marks) ++ ends) ++ finds;
       grown = pieces old mid new marks ends finds begins h.grown on.grown;
-      made = go on.swept;
+      made = inl (inr (record { begins = h.acts; slices = on.slices; begun = h.call; calls = inr (inr (on.sweeps, marked, on.swept, refl)) }));
       legal = on.legal;
     }
-  where
-    part : List Entry
-    part = ((by Collector h.acts ++ flat_map (by (Marker 0)) on.slices) ++ by Collector (act.CommitGc commit.Done ∷ [])) ++ by Collector on.sweeps
-
-    marked : SlicesUntilIdle (run (state_of old) (by Collector h.acts)) budget on.slices
-    marked = subst (λ (s : State). SlicesUntilIdle s budget on.slices) (state_after z old mid Collector (act.BeginGc begin.Started) h) on.marked
-
-    go : SweepsMore budget on.sweeps ⊎ SweepsAll budget on.sweeps → IsPart budget (state_of old) who.Gc cmd.GcFull part ⊎ IsPiece budget (state_of old) names who.Gc cmd.GcFull part
-    go (inl more) = inl (inr (record { begins = h.acts; slices = on.slices; begun = h.call; calls = inr (inr (on.sweeps, marked, more, refl)) }))
-    go (inr all) = inr (inr (record { begins = h.acts; slices = on.slices; sweeps = on.sweeps; begun = h.call; marked = marked; swept = all; are = refl }))
 
 -- a refusal to begin is the first entry, and the only one
 pub refused_first : (s : State) (why : Begin) (acts : List Act) → why ≢ begin.Started → CallOf s Collector (act.BeginGc why) acts → first_begin (by Collector acts) ≡ why

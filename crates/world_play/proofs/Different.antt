@@ -11,8 +11,7 @@ use Rattle.world_model.specs.Histories.{MayBy, Legal, LegalFrom, after}
 use Rattle.world_model.proofs.ListFacts.{and_true, or_true, or_right}
 use Rattle.world_model.proofs.NameFacts.{same_name_true, same_name_refl, names_from_range}
 use Rattle.world_model.proofs.Units.{AreApart, next_apart}
-use Rattle.heap_plain.proofs.NewNames.{among_members}
-use Rattle.heap_plain.proofs.WorldFacts.{has_among}
+use Rattle.world_model.proofs.NameFacts.{has_among, among_members}
 use Rattle.world_play.specs.Types.{Name, Kind, Pass, Lane, Marker, Collector, Act, Entry}
 use Rattle.world_play.specs.Types.act
 use Rattle.world_play.specs.Types.begin

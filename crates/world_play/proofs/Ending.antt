@@ -1,8 +1,9 @@
 -- What an input that was read says of the whole of it.
-use Rattle.std.proofs.Common.{◌≡◌, ℕ, Bool, true, false, List, [], ◌∷◌, ◌++◌, length, take, drop, ◌⊎◌, inl, inr, refl, sym, ap, subst, ◌∙◌, Option, Some, None, Result, Ok, Err, arith}
+use Rattle.std.proofs.Common.{◌≡◌, ℕ, Bool, true, false, ◌&&◌, List, [], ◌∷◌, ◌++◌, length, take, drop, ◌⊎◌, inl, inr, refl, sym, ap, subst, ◌∙◌, Option, Some, None, Result, Ok, Err, arith}
 use Rattle.std.proofs.lemmas.Bool.Decides.{nat_tests}
 use Rattle.std.proofs.lemmas.List.{length-take, take_all, drop_all}
-use Rattle.std.specs.Prelude.{nat_lt}
+use Rattle.std.specs.Prelude.{nat_lt, slice_index, slice_index_or, IfSome}
+use Rattle.std.specs.List.{AllByRecursion}
 use Rattle.std.specs.Result.{result_ok, result_err}
 use Rattle.level_script.specs.Reading.{outcome_of, script_of, fault_of, fault_at, Reads}
 use Rattle.level_script.specs.declared.cause.Cause.TheVariants as cause
@@ -11,7 +12,7 @@ use Rattle.level_script.specs.declared.cause.ParseErr.TheVariants as parse
 use Rattle.level_script.specs.declared.cause.ScriptErr.{ScriptErr}
 use Rattle.level_script.specs.declared.limits.Limits.{Limits}
 use Rattle.level_script.specs.declared.script.Script.{Script}
-use Rattle.world_play.specs.Streams.{Read, Gained}
+use Rattle.world_play.specs.Streams.{Read, Gained, line_feeds}
 use Rattle.play_io.specs.Faults.{Rose}
 use Rattle.world_model.specs.Sizes.{level}
 use Rattle.world_model.specs.State.{State, beginning}
@@ -21,9 +22,15 @@ use Rattle.world_play.specs.Types.{Entry, Line}
 use Rattle.world_play.specs.Text.{text_of}
 use Rattle.world_play.specs.Plays.{Bindings, no_bindings, reply_in, Plays, text}
 use Rattle.world_play.specs.Outcome.{outcome}
-use Rattle.world_play.specs.Laws.{OneText}
+use Rattle.world_play.specs.Types.{Who, Cmd}
+use Rattle.world_play.specs.Types.who
+use Rattle.world_play.specs.Types.cmd
+use Rattle.level_script.specs.Frames as frame
+use Rattle.level_script.specs.Frames.{are_framed, IsPlayable}
+use Rattle.world_model.proofs.ListFacts.{and_true}
+use Rattle.world_play.specs.Laws.{HasClass, OneText}
 use Rattle.world_play.specs.Turns.{Stops, Played, Stopped}
-use Rattle.world_play.specs.Ends.{level_limits, history_of, IsScript, HasFault, WasTaken, Refuses, WritesFault, HasRun, WasPlayed, OnDone, OnStopped, Headline, EndsEarly, WritesOutcome, line_feeds, CountsLines, TellsScript}
+use Rattle.world_play.specs.Ends.{level_limits, history_of, IsScript, HasFault, WasTaken, Refuses, WritesFault, HasRun, WasPlayed, OnDone, OnStopped, SaysScript, Headline, EndsEarly, WritesOutcome, CountsLines, TellsScript}
 use Rattle.world_play.specs.declared.status.Status.{Status}
 use Rattle.world_play.specs.declared.status.Status.TheVariants as status
 use Rattle.world_play.specs.declared.run.Run.{Run}
@@ -97,21 +104,21 @@ not_both bytes limits script fault is said = go (outcome_of bytes limits) is sai
 -- ---- the text of lines that were played
 
 -- the text of lines has one line feed for each
-pub text_feeds : (budget : ℕ) (s : State) (names last : Bindings) (lines : List Line) (pieces : List (List Entry)) → Plays budget s names lines pieces last → line_feeds (text s lines pieces) ≡ length lines
+pub text_feeds : (budget classes : ℕ) (s : State) (names last : Bindings) (lines : List Line) (pieces : List (List Entry)) → Plays budget classes s names lines pieces last → line_feeds (text s lines pieces) ≡ length lines
 unfolding Plays text
-text_feeds budget s names last [] [] plays = refl
-text_feeds budget s names last (l ∷ lines) (p ∷ pieces) plays =
+text_feeds budget classes s names last [] [] plays = refl
+text_feeds budget classes s names last (l ∷ lines) (p ∷ pieces) plays =
     let first : line_feeds (text_of (reply_in s l.who p)) ≡ 1 = one_feed _ (is_line (reply_in s l.who p)) in
-    let rest : line_feeds (text (run s p) lines pieces) ≡ length lines = text_feeds budget (run s p) _ last lines pieces plays.1 in
+    let rest : line_feeds (text (run s p) lines pieces) ≡ length lines = text_feeds budget classes (run s p) _ last lines pieces plays.1 in
     omega (arith, first, rest, feeds_append (text_of (reply_in s l.who p)) (text (run s p) lines pieces))
-text_feeds budget s names last [] (p ∷ pieces) plays = absurd plays
-text_feeds budget s names last (l ∷ lines) [] plays = absurd plays
+text_feeds budget classes s names last [] (p ∷ pieces) plays = absurd plays
+text_feeds budget classes s names last (l ∷ lines) [] plays = absurd plays
 
 -- a beginning of a reply has none
-stops_plain : (budget : ℕ) (s : State) (names : Bindings) (rest : List Line) (part : List Entry) (some : List ℕ) → Stops budget s names rest part some → line_feeds some ≡ 0
-stops_plain budget s names [] part some h = ap line_feeds h.1
-stops_plain budget s names (l ∷ ls) part some (inl (made, none)) = ap line_feeds none
-stops_plain budget s names (l ∷ ls) part some (inr (made, start)) = start_plain some _ start (is_line (reply_in s l.who part))
+stops_plain : (budget classes : ℕ) (s : State) (names : Bindings) (rest : List Line) (part : List Entry) (some : List ℕ) → Stops budget classes s names rest part some → line_feeds some ≡ 0
+stops_plain budget classes s names [] part some h = ap line_feeds h.1
+stops_plain budget classes s names (l ∷ ls) part some (inl (made, none)) = ap line_feeds none
+stops_plain budget classes s names (l ∷ ls) part some (inr (made, start)) = start_plain some _ start (is_line (reply_in s l.who part))
 
 -- so the number of replies that were put is that of the line feeds
 counts_gained : (had has : Option (List ℕ)) (bytes : List ℕ) (count : ℕ) → Gained had has bytes → count ≡ line_feeds bytes → CountsLines had has count
@@ -121,31 +128,31 @@ counts_gained (Some xs) has bytes count put e = (bytes, put, e)
 counts_none : (had has : Option (List ℕ)) (count : ℕ) → has ≡ had → count ≡ 0 → CountsLines had has count
 counts_none had has count same none = counts_gained had has [] count (subst (λ (now : Option (List ℕ)). Gained had now []) (sym same) (gained_none had)) none
 
-counts_all : (lines : List Line) (history : List Entry) (had has : Option (List ℕ)) (count : ℕ) → Played level 1000 lines history had has → count ≡ length lines → CountsLines had has count
-counts_all lines history had has count h number = counts_gained had has (text beginning lines h.pieces) count h.put (number ∙ sym (text_feeds 1000 beginning no_bindings h.last lines h.pieces h.plays))
+counts_all : (classes : ℕ) (lines : List Line) (history : List Entry) (had has : Option (List ℕ)) (count : ℕ) → Played level 1000 classes lines history had has → count ≡ length lines → CountsLines had has count
+counts_all classes lines history had has count h number = counts_gained had has (text beginning lines h.pieces) count h.put (number ∙ sym (text_feeds 1000 classes beginning no_bindings h.last lines h.pieces h.plays))
 
-counts_some : (lines : List Line) (history : List Entry) (had has : Option (List ℕ)) (count : ℕ) → Stopped level 1000 lines history had has count → CountsLines had has count
-counts_some lines history had has count h =
-    let whole : line_feeds (text beginning h.whole h.pieces) ≡ length h.whole = text_feeds 1000 beginning no_bindings h.names h.whole h.pieces h.plays in
-    let rest : line_feeds h.some ≡ 0 = stops_plain 1000 _ h.names h.rest h.part h.some h.stops in
+counts_some : (classes : ℕ) (lines : List Line) (history : List Entry) (had has : Option (List ℕ)) (count : ℕ) → Stopped level 1000 classes lines history had has count → CountsLines had has count
+counts_some classes lines history had has count h =
+    let whole : line_feeds (text beginning h.whole h.pieces) ≡ length h.whole = text_feeds 1000 classes beginning no_bindings h.names h.whole h.pieces h.plays in
+    let rest : line_feeds h.some ≡ 0 = stops_plain 1000 classes _ h.names h.rest h.part h.some h.stops in
     counts_gained had has (text beginning h.whole h.pieces ++ h.some) count h.put (omega (arith, h.number, whole, rest, feeds_append (text beginning h.whole h.pieces) h.some))
 
 -- ---- what a run that played says of the whole of it
 
-pub counts_of : (how : Status) (lines : List Line) (r : Option Run) (had has : Option (List ℕ)) (count : ℕ) → WasPlayed how lines r had has count → CountsLines had has count
-counts_of how lines None had has count h = counts_none had has count h.0 h.1
-counts_of status.Ok lines (Some engine) had has count h = counts_all lines _ had has count h.0 h.1
-counts_of status.Usage lines (Some engine) had has count h = counts_some lines _ had has count h
-counts_of (status.Script fault) lines (Some engine) had has count h = counts_some lines _ had has count h
-counts_of status.ReadFault lines (Some engine) had has count h = counts_some lines _ had has count h
-counts_of status.WriteFault lines (Some engine) had has count h = counts_some lines _ had has count h
-counts_of status.Memory lines (Some engine) had has count h = counts_some lines _ had has count h
+pub counts_of : (how : Status) (script : Script) (r : Option Run) (had has : Option (List ℕ)) (count : ℕ) → WasPlayed how script r had has count → CountsLines had has count
+counts_of how script None had has count h = counts_none had has count h.0 h.1
+counts_of status.Ok script (Some engine) had has count h = counts_all _ script.lines _ had has count h.0 h.1
+counts_of status.Usage script (Some engine) had has count h = counts_some _ script.lines _ had has count h
+counts_of (status.Script fault) script (Some engine) had has count h = counts_some _ script.lines _ had has count h
+counts_of status.ReadFault script (Some engine) had has count h = counts_some _ script.lines _ had has count h
+counts_of status.WriteFault script (Some engine) had has count h = counts_some _ script.lines _ had has count h
+counts_of status.Memory script (Some engine) had has count h = counts_some _ script.lines _ had has count h
 
 -- a run that played nothing
 pub counts_unplayed : (held : Option (List ℕ)) (count : ℕ) → count ≡ 0 → CountsLines held held count
 counts_unplayed held count none = counts_none held held count refl none
 
-pub headline_of : (how : Status) (left now : Option (List ℕ)) (script : Script) (r : Option Run) (had has : Option (List ℕ)) (count : ℕ) → IsScript left script → WasTaken left now → WasPlayed how script.lines r had has count → OnDone how (Headline left now had has r)
+pub headline_of : (how : Status) (left now : Option (List ℕ)) (script : Script) (r : Option Run) (had has : Option (List ℕ)) (count : ℕ) → IsScript left script → WasTaken left now → WasPlayed how script r had has count → OnDone how (Headline left now had has r)
 headline_of status.Ok None now script r had has count is taken h = tt
 headline_of status.Ok (Some input) now script None had has count is taken h = tt
 headline_of status.Ok (Some input) now script (Some engine) had has count is taken h = (script, is, taken ∙ ap (λ (xs : List ℕ). Some xs) (nothing_left input script level_limits is), h.0)
@@ -155,24 +162,48 @@ headline_of status.ReadFault left now script r had has count is taken h = tt
 headline_of status.WriteFault left now script r had has count is taken h = tt
 headline_of status.Memory left now script r had has count is taken h = tt
 
-outcome_played : OneText → (lines : List Line) (history : List Entry) (had has : Option (List ℕ)) → Played level 1000 lines history had has → Gained had has (outcome level lines)
-outcome_played law lines history had has h = subst (Gained had has) (law level 1000 lines h.pieces h.last (subst (Legal level) h.cut h.legal) h.plays) h.put
+-- ---- the classes of a script that can be played
 
-pub outcome_of_run : OneText → (how : Status) (left : Option (List ℕ)) (script : Script) (r : Option Run) (had has : Option (List ℕ)) (count : ℕ) → IsScript left script → HasRun how r → WasPlayed how script.lines r had has count → OnDone how (WritesOutcome left had has)
-outcome_of_run law status.Ok None script r had has count is there h = tt
-outcome_of_run law status.Ok (Some input) script None had has count is there h = absurd (there refl)
-outcome_of_run law status.Ok (Some input) script (Some engine) had has count is there h = (script, is, outcome_played law script.lines _ had has h.0)
-outcome_of_run law status.Usage left script r had has count is there h = tt
-outcome_of_run law (status.Script fault) left script r had has count is there h = tt
-outcome_of_run law status.ReadFault left script r had has count is there h = tt
-outcome_of_run law status.WriteFault left script r had has count is there h = tt
-outcome_of_run law status.Memory left script r had has count is there h = tt
+-- the class of a line that fits is there
+fits_class : (vars : List ℕ) (classes : ℕ) (frames : List Bool) (w : Who) (what : Cmd) → frame.fits vars classes frames w what ≡ true → HasClass classes what
+fits_class vars classes frames (who.Lane lane) (cmd.New var class) h =
+    let parts = and_true (nat_lt lane (length frames)) _ h in
+    let last : nat_lt class.0 classes ≡ true = (and_true (slice_index_or frames lane false && nat_lt var (slice_index vars lane)) (nat_lt class.0 classes) parts.1).1 in
+    grind (arith, nat_tests, last)
+fits_class vars classes frames who.Gc (cmd.New var class) h = absurd cc
+fits_class vars classes frames w cmd.Open h = tt
+fits_class vars classes frames w cmd.Close h = tt
+fits_class vars classes frames w (cmd.Root var on) h = tt
+fits_class vars classes frames w cmd.GcFull h = tt
 
-ends_early : (left : Option (List ℕ)) (script : Script) (engine : Run) (had has : Option (List ℕ)) (count : ℕ) → IsScript left script → Stopped level 1000 script.lines (history_of engine) had has count → EndsEarly left had has count engine
+framed_classes : (vars : List ℕ) (classes : ℕ) (frames : List Bool) (lines : List Line) → are_framed vars classes frames lines ≡ true → AllByRecursion (λ l. HasClass classes l.cmd) lines
+unfolding are_framed
+framed_classes vars classes frames [] h = tt
+framed_classes vars classes frames (l ∷ lines) h =
+    let parts = and_true (frame.fits vars classes frames l.who l.cmd) _ h in
+    (fits_class vars classes frames l.who l.cmd parts.0, framed_classes vars classes (frame.frames_after frames l.who l.cmd) lines parts.1)
+
+outcome_played : OneText → (script : Script) (history : List Entry) (had has : Option (List ℕ)) → IsPlayable level_limits script → Played level 1000 (length script.classes) script.lines history had has → Gained had has (outcome level script.lines)
+outcome_played law script history had has can h =
+    subst (Gained had has)
+    (law level 1000 (length script.classes) script.lines h.pieces h.last can.classes (framed_classes script.vars (length script.classes) _ script.lines can.framed) (subst (Legal level) h.cut h.legal) h.plays)
+    h.put
+
+pub outcome_of_run : OneText → (how : Status) (left : Option (List ℕ)) (script : Script) (r : Option Run) (had has : Option (List ℕ)) (count : ℕ) → IsPlayable level_limits script → IsScript left script → HasRun how r → WasPlayed how script r had has count → OnDone how (WritesOutcome left had has)
+outcome_of_run law status.Ok None script r had has count can is there h = tt
+outcome_of_run law status.Ok (Some input) script None had has count can is there h = absurd (there refl)
+outcome_of_run law status.Ok (Some input) script (Some engine) had has count can is there h = (script, is, outcome_played law script _ had has can h.0)
+outcome_of_run law status.Usage left script r had has count can is there h = tt
+outcome_of_run law (status.Script fault) left script r had has count can is there h = tt
+outcome_of_run law status.ReadFault left script r had has count can is there h = tt
+outcome_of_run law status.WriteFault left script r had has count can is there h = tt
+outcome_of_run law status.Memory left script r had has count can is there h = tt
+
+ends_early : (left : Option (List ℕ)) (script : Script) (engine : Run) (had has : Option (List ℕ)) (count : ℕ) → IsScript left script → Stopped level 1000 (length script.classes) script.lines (history_of engine) had has count → EndsEarly left had has count engine
 ends_early None script engine had has count is h = tt
 ends_early (Some input) script engine had has count is h = (script, is, h)
 
-pub early_of : (how : Status) (left : Option (List ℕ)) (script : Script) (r : Option Run) (had has : Option (List ℕ)) (count : ℕ) → IsScript left script → WasPlayed how script.lines r had has count → OnStopped how r (EndsEarly left had has count)
+pub early_of : (how : Status) (left : Option (List ℕ)) (script : Script) (r : Option Run) (had has : Option (List ℕ)) (count : ℕ) → IsScript left script → WasPlayed how script r had has count → OnStopped how r (EndsEarly left had has count)
 early_of status.Ok left script r had has count is h = tt
 early_of status.Usage left script r had has count is h = tt
 early_of (status.Script fault) left script r had has count is h = tt
@@ -200,3 +231,19 @@ completes_unread (status.Script fault) (Some input) rest before now h told quiet
 completes_unread status.ReadFault left rest before now h told quiet = absurd (quiet h)
 completes_unread status.WriteFault left rest before now h told quiet = absurd h
 completes_unread status.Memory left rest before now h told quiet = inr refl
+
+told_script : (left : Option (List ℕ)) (script : Script) → IsScript left script → IfSome left (λ input. (told : Script) × (script_of input level_limits ≡ Some told))
+told_script None script is = tt
+told_script (Some input) script is = (script, is)
+
+-- wherever an engine played, the input is a script
+pub says_script_of : (how : Status) (left : Option (List ℕ)) (script : Script) (r : Option Run) (before now : ℕ) → IsScript left script → WritesFault before now how → SaysScript left how r
+says_script_of status.Ok left script None before now is h = tt
+says_script_of status.Ok left script (Some engine) before now is h = told_script left script is
+says_script_of status.Usage left script r before now is h = absurd h
+says_script_of (status.Script fault) left script r before now is h = absurd h
+says_script_of status.ReadFault left script r before now is h = absurd h
+says_script_of status.WriteFault left script None before now is h = tt
+says_script_of status.WriteFault left script (Some engine) before now is h = told_script left script is
+says_script_of status.Memory left script None before now is h = tt
+says_script_of status.Memory left script (Some engine) before now is h = told_script left script is

@@ -1,7 +1,9 @@
 pub mod Order
 pub mod Different
+pub mod Destroying
 pub mod Removing
 pub mod Telling
+pub mod Purging
 pub mod Lines
 pub mod Streams
 pub mod Keeping

@@ -7,8 +7,7 @@ use Rattle.std.proofs.lemmas.List.Sums.{sum_by-append, sum_by-cons}
 use Rattle.world_play.specs.Types.{Name, Phase, Idle, Marking, Gathering, Reply}
 use Rattle.world_play.specs.Types.reply
 use Rattle.world_play.specs.Text.{phase_text, name_text, names_text, text_of}
-use Rattle.world_play.specs.Streams.{IsStart}
-use Rattle.world_play.specs.Ends.{line_feeds}
+use Rattle.world_play.specs.Streams.{IsStart, line_feeds}
 
 -- no byte is a line feed
 pub record IsPlain (bytes : List ℕ) : Type 0 where

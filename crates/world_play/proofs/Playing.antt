@@ -28,9 +28,9 @@ use Rattle.world_play.proofs.Streams.{gained_none, gained_both}
 use Rattle.world_play.proofs.Lines.{start_none}
 
 -- a whole collection is a line of the collector
-pub gc_turned : (z : Sizes) (budget : ℕ) (old new : List Entry) (before now : Holdings) (lanes : List LaneVariables) (played classes : ℕ) (what : Cmd) (r : Reply) → fits_by z.lanes (numbers_of lanes) classes (frames_of (after old)) who.Gc what ≡ true → AreKept before lanes played
-    → Collects z budget old new before now r → Turned z budget old new now lanes lanes played who.Gc what r
-gc_turned z budget old new before now lanes played classes cmd.GcFull r fit kept h = record {
+pub gc_turned : (z : Sizes) (budget classes : ℕ) (old new : List Entry) (before now : Holdings) (lanes : List LaneVariables) (played : ℕ) (what : Cmd) (r : Reply) → fits_by z.lanes (numbers_of lanes) classes (frames_of (after old)) who.Gc what ≡ true → AreKept before lanes played
+    → Collects z budget classes old new before now r → Turned z budget classes old new now lanes lanes played who.Gc what r
+gc_turned z budget classes old new before now lanes played cmd.GcFull r fit kept h = record {
   turn = (h.piece, h.grown, (h.calls, h.answer, refl));
   frames = ap (λ opened. frames_of (record (after new) { opened = opened })) h.opened;
   numbers = refl;
@@ -38,39 +38,39 @@ gc_turned z budget old new before now lanes played classes cmd.GcFull r fit kept
   alone = h.alone;
   kept = kept_on before now lanes played h.held kept;
 }
-gc_turned z budget old new before now lanes played classes what r fit kept h = absurd cc
+gc_turned z budget classes old new before now lanes played what r fit kept h = absurd cc
 
 -- so is one that was not told to its end
-pub gc_broken : (z : Sizes) (budget : ℕ) (old new : List Entry) (names : Bindings) (what : Cmd) → fits_gc what ≡ true → Broken z budget old new names who.Gc cmd.GcFull → Broken z budget old new names who.Gc what
-gc_broken z budget old new names cmd.GcFull fit h = h
-gc_broken z budget old new names what fit h = absurd cc
+pub gc_broken : (z : Sizes) (budget classes : ℕ) (old new : List Entry) (names : Bindings) (what : Cmd) → fits_gc what ≡ true → Broken z budget classes old new names who.Gc cmd.GcFull → Broken z budget classes old new names who.Gc what
+gc_broken z budget classes old new names cmd.GcFull fit h = h
+gc_broken z budget classes old new names what fit h = absurd cc
 
 -- ---- line after line
 
-pub plays_none : (budget : ℕ) (s : State) (names : Bindings) → Plays budget s names [] [] names
+pub plays_none : (budget classes : ℕ) (s : State) (names : Bindings) → Plays budget classes s names [] [] names
 unfolding Plays
-plays_none budget s names = refl
+plays_none budget classes s names = refl
 
-pub plays_more : (budget : ℕ) (s : State) (names mid new : Bindings) (ls : List Line) (l : Line) (ps : List (List Entry)) (p : List Entry) (r : Reply)
-    → Plays budget s names ls ps mid → TurnBy budget (run s (entries_of ps)) mid l.who l.cmd p r new → Plays budget s names (ls ++ l ∷ []) (ps ++ p ∷ []) new
+pub plays_more : (budget classes : ℕ) (s : State) (names mid new : Bindings) (ls : List Line) (l : Line) (ps : List (List Entry)) (p : List Entry) (r : Reply)
+    → Plays budget classes s names ls ps mid → TurnBy budget classes (run s (entries_of ps)) mid l.who l.cmd p r new → Plays budget classes s names (ls ++ l ∷ []) (ps ++ p ∷ []) new
 unfolding Plays
-plays_more budget s names mid new [] l [] p r was turn = (subst (λ (n : Bindings). IsPiece budget s n l.who l.cmd p) was turn.0, turn.2 ∙ λ i. names_after (was i) l.who l.cmd (turn.1 i))
-plays_more budget s names mid new (x ∷ xs) l (q ∷ ps) p r was turn =
-    (was.0, plays_more budget (run s q) _ mid new xs l ps p r was.1 (subst (λ (t : State). TurnBy budget t mid l.who l.cmd p r new) (run-append s q (entries_of ps)) turn))
-plays_more budget s names mid new [] l (q ∷ ps) p r was turn = absurd was
-plays_more budget s names mid new (x ∷ xs) l [] p r was turn = absurd was
+plays_more budget classes s names mid new [] l [] p r was turn = (subst (λ (n : Bindings). IsPiece budget classes s n l.who l.cmd p) was turn.0, turn.2 ∙ λ i. names_after (was i) l.who l.cmd (turn.1 i))
+plays_more budget classes s names mid new (x ∷ xs) l (q ∷ ps) p r was turn =
+    (was.0, plays_more budget classes (run s q) _ mid new xs l ps p r was.1 (subst (λ (t : State). TurnBy budget classes t mid l.who l.cmd p r new) (run-append s q (entries_of ps)) turn))
+plays_more budget classes s names mid new [] l (q ∷ ps) p r was turn = absurd was
+plays_more budget classes s names mid new (x ∷ xs) l [] p r was turn = absurd was
 
 -- the text of one more line
-pub text_more : (budget : ℕ) (s : State) (names mid : Bindings) (ls : List Line) (l : Line) (ps : List (List Entry)) (p : List Entry) → Plays budget s names ls ps mid
+pub text_more : (budget classes : ℕ) (s : State) (names mid : Bindings) (ls : List Line) (l : Line) (ps : List (List Entry)) (p : List Entry) → Plays budget classes s names ls ps mid
     → text s (ls ++ l ∷ []) (ps ++ p ∷ []) ≡ text s ls ps ++ text_of (reply_in (run s (entries_of ps)) l.who p)
 unfolding Plays text
-text_more budget s names mid [] l [] p was = append-nil _
-text_more budget s names mid (x ∷ xs) l (q ∷ ps) p was =
-    ap (λ (t : List ℕ). text_of (reply_in s x.who q) ++ t) (text_more budget (run s q) _ mid xs l ps p was.1)
+text_more budget classes s names mid [] l [] p was = append-nil _
+text_more budget classes s names mid (x ∷ xs) l (q ∷ ps) p was =
+    ap (λ (t : List ℕ). text_of (reply_in s x.who q) ++ t) (text_more budget classes (run s q) _ mid xs l ps p was.1)
     ∙ sym (append_assoc (text_of (reply_in s x.who q)) (text (run s q) xs ps) (text_of (reply_in (run (run s q) (entries_of ps)) l.who p)))
     ∙ ap (λ (t : State). (text_of (reply_in s x.who q) ++ text (run s q) xs ps) ++ text_of (reply_in t l.who p)) (sym (run-append s q (entries_of ps)))
-text_more budget s names mid [] l (q ∷ ps) p was = absurd was
-text_more budget s names mid (x ∷ xs) l [] p was = absurd was
+text_more budget classes s names mid [] l (q ∷ ps) p was = absurd was
+text_more budget classes s names mid (x ∷ xs) l [] p was = absurd was
 
 -- the entries of one more piece
 pub entries_more : (ps : List (List Entry)) (p : List Entry) → entries_of (ps ++ p ∷ []) ≡ entries_of ps ++ p
@@ -87,26 +87,26 @@ no_part budget s who.Gc (cmd.New var class) = refl
 no_part budget s who.Gc (cmd.Root var on) = refl
 no_part budget s (who.Lane lane) what = refl
 
-pub stops_none : (budget : ℕ) (s : State) (names : Bindings) (lines : List Line) → Stops budget s names lines [] []
-stops_none budget s names [] = (refl, refl)
-stops_none budget s names (l ∷ ls) = inl (no_part budget s l.who l.cmd, refl)
+pub stops_none : (budget classes : ℕ) (s : State) (names : Bindings) (lines : List Line) → Stops budget classes s names lines [] []
+stops_none budget classes s names [] = (refl, refl)
+stops_none budget classes s names (l ∷ ls) = inl (no_part budget s l.who l.cmd, refl)
 
 -- a line of which some calls were made, or all, and whose reply was not put
-pub breaks : (z : Sizes) (budget : ℕ) (old new : List Entry) (names : Bindings) (l : Line) (held : Option (List ℕ)) → Broken z budget old new names l.who l.cmd → Unanswered z budget old new names l held held
-breaks z budget old new names l held h = record { part = h.part; some = []; grown = h.grown; stops = go h.made; legal = h.legal; put = gained_none held }
+pub breaks : (z : Sizes) (budget classes : ℕ) (old new : List Entry) (names : Bindings) (l : Line) (held : Option (List ℕ)) → Broken z budget classes old new names l.who l.cmd → Unanswered z budget classes old new names l held held
+breaks z budget classes old new names l held h = record { part = h.part; some = []; grown = h.grown; stops = go h.made; legal = h.legal; put = gained_none held }
   where
-    go : IsPart budget (state_of old) l.who l.cmd h.part ⊎ IsPiece budget (state_of old) names l.who l.cmd h.part → Stops budget (state_of old) names (l ∷ []) h.part []
+    go : IsPart budget (state_of old) l.who l.cmd h.part ⊎ IsPiece budget classes (state_of old) names l.who l.cmd h.part → Stops budget classes (state_of old) names (l ∷ []) h.part []
     go (inl part) = inl (part, refl)
     go (inr piece) = inr (piece, start_none _)
 
 -- a line all of whose calls were made
-pub turned_broken : (z : Sizes) (budget : ℕ) (old new : List Entry) (holds : Holdings) (before now : List LaneVariables) (played : ℕ) (w : Who) (what : Cmd) (r : Reply) → Turned z budget old new holds before now played w what r → Broken z budget old new (shown before) w what
-turned_broken z budget old new holds before now played w what r t = record { part = t.turn.0; grown = t.turn.1; made = inr t.turn.2.0; legal = t.legal }
+pub turned_broken : (z : Sizes) (budget classes : ℕ) (old new : List Entry) (holds : Holdings) (before now : List LaneVariables) (played : ℕ) (w : Who) (what : Cmd) (r : Reply) → Turned z budget classes old new holds before now played w what r → Broken z budget classes old new (shown before) w what
+turned_broken z budget classes old new holds before now played w what r t = record { part = t.turn.0; grown = t.turn.1; made = inr t.turn.2.0; legal = t.legal }
 
 -- a line whose reply was put in part
-pub puts_part : (z : Sizes) (budget : ℕ) (old new : List Entry) (holds : Holdings) (before now : List LaneVariables) (played : ℕ) (l : Line) (r : Reply) (had has : Option (List ℕ))
-    → Turned z budget old new holds before now played l.who l.cmd r → GainedStart had has (text_of r) → Unanswered z budget old new (shown before) l had has
-puts_part z budget old new holds before now played l r had has t g = record {
+pub puts_part : (z : Sizes) (budget classes : ℕ) (old new : List Entry) (holds : Holdings) (before now : List LaneVariables) (played : ℕ) (l : Line) (r : Reply) (had has : Option (List ℕ))
+    → Turned z budget classes old new holds before now played l.who l.cmd r → GainedStart had has (text_of r) → Unanswered z budget classes old new (shown before) l had has
+puts_part z budget classes old new holds before now played l r had has t g = record {
   part = t.turn.0;
   some = g.0;
   grown = t.turn.1;
@@ -116,10 +116,10 @@ puts_part z budget old new holds before now played l r had has t g = record {
 }
 
 -- the first lines were played, and the next one was not answered
-pub stopped_at : (z : Sizes) (budget : ℕ) (lines : List Line) (i : ℕ) (d : Line) (pieces : List (List Entry)) (names : Bindings) (old new : List Entry) (had mid has : Option (List ℕ)) (count : ℕ) → i < length lines
-    → Plays budget beginning no_bindings (take i lines) pieces names → old ≡ entries_of pieces → Gained had mid (text beginning (take i lines) pieces) → count ≡ i
-    → Unanswered z budget old new names (get_or lines i d) mid has → Stopped z budget lines new had has count
-stopped_at z budget lines i d pieces names old new had mid has count inside plays cut put number h = record {
+pub stopped_at : (z : Sizes) (budget classes : ℕ) (lines : List Line) (i : ℕ) (d : Line) (pieces : List (List Entry)) (names : Bindings) (old new : List Entry) (had mid has : Option (List ℕ)) (count : ℕ) → i < length lines
+    → Plays budget classes beginning no_bindings (take i lines) pieces names → old ≡ entries_of pieces → Gained had mid (text beginning (take i lines) pieces) → count ≡ i
+    → Unanswered z budget classes old new names (get_or lines i d) mid has → Stopped z budget classes lines new had has count
+stopped_at z budget classes lines i d pieces names old new had mid has count inside plays cut put number h = record {
   whole = take i lines;
   rest = get_or lines i d ∷ drop (suc i) lines;
   pieces = pieces;
@@ -130,15 +130,15 @@ stopped_at z budget lines i d pieces names old new had mid has count inside play
   are = sym (take-append-drop i lines) ∙ ap (λ (ls : List Line). take i lines ++ ls) (drop-cons lines i d inside);
   cut = h.grown ∙ ap (λ (es : List Entry). es ++ h.part) cut;
   plays = plays;
-  stops = subst (λ (es : List Entry). Stops budget (state_of es) names (get_or lines i d ∷ drop (suc i) lines) h.part h.some) cut h.stops;
+  stops = subst (λ (es : List Entry). Stops budget classes (state_of es) names (get_or lines i d ∷ drop (suc i) lines) h.part h.some) cut h.stops;
   put = gained_both had mid has (text beginning (take i lines) pieces) h.some put h.put;
   number = omega (arith, number, length-take i lines);
 }
 
 -- nothing was played
-pub stopped_first : (z : Sizes) (budget : ℕ) (lines : List Line) (history : List Entry) (held : Option (List ℕ)) (count : ℕ) → history ≡ [] → count ≡ 0 → Stopped z budget lines history held held count
+pub stopped_first : (z : Sizes) (budget classes : ℕ) (lines : List Line) (history : List Entry) (held : Option (List ℕ)) (count : ℕ) → history ≡ [] → count ≡ 0 → Stopped z budget classes lines history held held count
 unfolding text
-stopped_first z budget lines history held count none zero_lines = record {
+stopped_first z budget classes lines history held count none zero_lines = record {
   whole = [];
   rest = lines;
   pieces = [];
@@ -148,8 +148,8 @@ stopped_first z budget lines history held count none zero_lines = record {
   legal = subst (Legal z) (sym none) tt;
   are = refl;
   cut = none;
-  plays = plays_none budget beginning no_bindings;
-  stops = stops_none budget beginning no_bindings lines;
+  plays = plays_none budget classes beginning no_bindings;
+  stops = stops_none budget classes beginning no_bindings lines;
   put = gained_none held;
   number = zero_lines;
 }

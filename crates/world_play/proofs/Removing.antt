@@ -1,6 +1,7 @@
 -- What a whole collection removes and finds in a legal history, where no object refers to another.
-use Rattle.std.proofs.Common.{◌≡◌, ℕ, ◌+◌, refl, sym, subst, ap, ◌∙◌, inl, inr, Bool, cond, true, false, not, ◌&&◌, List, [], ◌∷◌, ◌++◌, append_assoc, map, Option, Some, None, ◌⊎◌, filter}
+use Rattle.std.proofs.Common.{◌≡◌, ℕ, ◌+◌, ◌*◌, ◌<◌, ◌≤◌, arith, length, refl, sym, subst, ap, ◌∙◌, inl, inr, Bool, cond, true, false, not, ◌&&◌, List, [], ◌∷◌, ◌++◌, append_assoc, map, Option, Some, None, ◌⊎◌, filter}
 use Rattle.std.specs.List.{list_any, list_all, flat_map}
+use Rattle.std.proofs.lemmas.List.{length-map}
 use Rattle.std.proofs.lemmas.Bool.{both_ways, not-true, false_from_ne_true}
 use Rattle.world_model.specs.Sizes.{Sizes}
 use Rattle.world_model.specs.NameLists.{same_name, has, all_different, members}
@@ -12,36 +13,36 @@ use Rattle.world_model.specs.Next.{next, run, committed, with_found, settled}
 use Rattle.world_model.specs.Histories.{state_of, after, Legal, LegalFrom}
 use Rattle.world_model.specs.Calls.{by, SlicesUntilIdle}
 use Rattle.world_model.specs.Laws.{started, done, KeepsReached}
-use Rattle.world_model.proofs.ListFacts.{and_true, or_true, or_right, Among, contains_among, among_contains, filter_among, among_filter_test}
-use Rattle.world_model.proofs.NameFacts.{same_name_true}
+use Rattle.world_model.proofs.ListFacts.{and_true, or_true, or_right, Among, contains_among, among_contains, filter_among, among_filter_test, among_test, test_among}
+use Rattle.world_model.proofs.NameFacts.{same_name_true, has_among, among_has}
 use Rattle.world_model.proofs.Joins.{run-append, by-append, legal_split, legal_join}
-use Rattle.world_model.proofs.Collections.{AllMark, slice_marks, keeps_mark, collect_is_exact_holds}
+use Rattle.world_model.proofs.Collections.{all_append, keeps_mark, slices_mark, collect_is_exact_holds}
 use Rattle.world_model.proofs.Progress.{marks_leave}
-use Rattle.heap_plain.proofs.WorldFacts.{has_among, among_has, among_test, test_among}
 use Rattle.world_play.specs.Types.{Name, Phase, Idle, Marking, Swept, SweepStop, Pass, Marker, Collector, Act, Entry}
 use Rattle.world_play.specs.Types.act
 use Rattle.world_play.specs.Types.begin
 use Rattle.world_play.specs.Types.sweep
 use Rattle.world_play.specs.Plays.{SweepsMore, SweepsAll, Collected, first_begin}
 use Rattle.world_play.specs.Outcome.{Scene, unreached, collected}
+use Rattle.world_model.specs.Hooks.{class_of}
+use Rattle.world_play.proofs.Order.{same_order}
+use Rattle.world_play.proofs.Destroying.{weight, weight_most, names_of, removed_name, InTable, purges_end}
 use Rattle.world_play.proofs.Different.{NoneShared, has_append, different_append, different_filter, members_different}
 
 -- ---- what a world shows
 
-abbrev pub names_of : List Removal → List Name
-names_of removals = map (λ (r : Removal). r.name) removals
-
 abbrev pub scene_of : World → Scene
-scene_of w = record { kinds = w.kinds; units = w.units; rooted = w.rooted; opened = w.opened; removed = names_of w.removals }
+scene_of w = record { kinds = w.kinds; units = w.units; rooted = w.rooted; opened = w.opened }
 
--- no collection runs, no object refers to another, and no strong pointer names one
-pub record AreStill (phase : Phase) (cell : Name → ℕ → Option Name) (strong : ℕ → ℕ → Option Name) : Type 0 where
+-- no collection runs, nothing is removed that is not released, no object refers to another, and no strong pointer names one
+pub record AreStill (phase : Phase) (removals : List Removal) (cell : Name → ℕ → Option Name) (strong : ℕ → ℕ → Option Name) : Type 0 where
   pub idle : phase ≡ Idle
+  pub released : removals ≡ []
   pub cells : (n : Name) (slot : ℕ) → cell n slot ≡ None
   pub pointers : (lane number : ℕ) → strong lane number ≡ None
 
 abbrev pub IsCalm : World → Type 0
-IsCalm w = AreStill w.phase w.cell w.strong
+IsCalm w = AreStill w.phase w.removals w.cell w.strong
 
 -- ---- what is reached
 
@@ -98,16 +99,15 @@ names_of_new : (names : List Name) → names_of (map (λ n. record { name = n; s
 names_of_new [] = refl
 names_of_new (n ∷ names) = ap (λ (rest : List Name). n ∷ rest) (names_of_new names)
 
--- a commit that keeps the reached units leaves the scene that a collection leaves
-committed_scene : (m : Marks) (w : World) → IsCalm w → KeepsReached (graph w) (graph (committed m w)) → scene_of (committed m w) ≡ collected (scene_of w)
+-- a commit that keeps the reached units leaves the scene that a collection leaves, and removes what is not reached
+committed_scene : (m : Marks) (w : World) → IsCalm w → KeepsReached (graph w) (graph (committed m w)) → (scene_of (committed m w) ≡ collected (scene_of w)) × (names_of (committed m w).removals ≡ unreached (scene_of w))
 committed_scene m w calm keeps =
     let marks : (u : List Name) → Among w.units u → is_marked m u ≡ list_any w.rooted u = passes_reached w (committed m w) (is_marked m) calm refl keeps in
     let stay : filter (is_marked m) w.units ≡ filter (list_any w.rooted) w.units = filter_same (is_marked m) (list_any w.rooted) w.units marks in
     let go : white_units m w ≡ filter (λ u. not (list_any w.rooted u)) w.units =
     filter_same (λ u. not (is_marked m u)) (λ u. not (list_any w.rooted u)) w.units (λ u h. ap not (marks u h)) in
     let gone : members (white_units m w) ≡ unreached (scene_of w) = ap members go in
-    let removed : names_of (committed m w).removals ≡ unreached (scene_of w) = names_of_new (members (white_units m w)) ∙ gone in
-    λ i. record { kinds = w.kinds; units = stay i; rooted = λ n. w.rooted n && not (has (gone i) n); opened = w.opened; removed = removed i }
+    (λ i. record { kinds = w.kinds; units = stay i; rooted = λ n. w.rooted n && not (has (gone i) n); opened = w.opened }, names_of_new (members (white_units m w)) ∙ gone)
 
 -- ---- sweeps
 
@@ -138,18 +138,6 @@ all_has test (m ∷ names) n all h =
 all_names : (test : Name → Bool) (removals : List Removal) → list_all (λ r. test r.name) removals ≡ list_all test (names_of removals)
 all_names test [] = refl
 all_names test (r ∷ removals) = ap (λ (b : Bool). test r.name && b) (all_names test removals)
-
--- an object that is removed, at any stage
-removed_name : (stage : Stage) (removals : List Removal) (n : Name)
-    → list_any (λ r. same_name n r.name && has_stage stage r.stage) removals ≡ true → has (names_of removals) n ≡ true
-removed_name stage [] n h = absurd cc
-removed_name stage (r ∷ removals) n h = go (removed_name stage removals n) (or_true (same_name n r.name && has_stage stage r.stage) _ h)
-  where
-    go : (list_any (λ q. same_name n q.name && has_stage stage q.stage) removals ≡ true → has (names_of removals) n ≡ true)
-        → ((same_name n r.name && has_stage stage r.stage) ≡ true) ⊎ (list_any (λ q. same_name n q.name && has_stage stage q.stage) removals ≡ true)
-        → has (names_of (r ∷ removals)) n ≡ true
-    go rest (inl e) = let same : same_name n r.name ≡ true = (and_true _ _ e).0 in rw same refl
-    go rest (inr e) = or_right (same_name n r.name) _ (rest e)
 
 -- what a sweep finds is new, and removed
 finds_more : (w : World) (s : State) (budget : ℕ) (r : Swept) (names : List Name) → Finds w s.world → Sweeps s budget r names
@@ -212,20 +200,9 @@ finds_all z w s budget sweeps h legal all =
 
 -- ---- a whole collection
 
-marks_append : (xs ys : List Entry) → AllMark xs → AllMark ys → AllMark (xs ++ ys)
-marks_append [] ys g h = h
-marks_append (x ∷ xs) ys g h = (g.0, marks_append xs ys g.1 h)
-
-slices_mark : (s : State) (budget : ℕ) (slices : List (List Act)) → SlicesUntilIdle s budget slices → AllMark (flat_map (by (Marker 0)) slices)
-slices_mark s budget [] h = tt
-slices_mark s budget (last ∷ []) h = marks_append (by (Marker 0) last) [] (slice_marks s 0 budget _ last h.1) tt
-slices_mark s budget (acts ∷ next ∷ rest) h =
-    marks_append (by (Marker 0) acts) _ (slice_marks s 0 budget _ acts h.1) (slices_mark (run s (by (Marker 0) acts)) budget (next ∷ rest) h.2)
-
 -- what a whole collection comes upon, finds and leaves
 pub record HasCollected (w : World) (piece : List Entry) (new : World) : Type 0 where
   pub begun : first_begin piece ≡ begin.Started
-  pub released : w.removals ≡ []
   pub closed : w.opened ≡ []
   pub gone : all_different (unreached (scene_of w)) ≡ true
   pub found : all_different new.found ≡ true
@@ -233,8 +210,8 @@ pub record HasCollected (w : World) (piece : List Entry) (new : World) : Type 0 
   pub scene : scene_of new ≡ collected (scene_of w)
   pub calm : IsCalm new
 
-module _ (z : Sizes) (budget : ℕ) (old piece : List Entry) (before : Legal z old) (calm : IsCalm (after old))
-    (legal : LegalFrom z (state_of old) piece) (h : Collected budget (state_of old) piece) where
+module _ (z : Sizes) (budget classes : ℕ) (old piece : List Entry) (before : Legal z old) (calm : IsCalm (after old)) (table : InTable classes (after old))
+    (whole : LegalFrom z (state_of old) piece) (h : Collected budget classes (state_of old) piece) where
   abbrev s : State
   s = state_of old
 
@@ -263,8 +240,15 @@ module _ (z : Sizes) (budget : ℕ) (old piece : List Entry) (before : Legal z o
   front_is : front ≡ started ∷ (notes ++ marks)
   front_is = ap (λ (acts : List Act). by Collector acts ++ marks) h.begun.are
 
+  -- the entries of the purges
+  abbrev ends : List Entry
+  ends = flat_map (by Collector) h.purges
+
+  legal_parts : LegalFrom z s h.front × LegalFrom z (run s h.front) ends
+  legal_parts = legal_split z s h.front ends (subst (LegalFrom z s) h.are whole)
+
   legal_half : LegalFrom z s half × LegalFrom z (run s half) (by Collector h.sweeps)
-  legal_half = legal_split z s half (by Collector h.sweeps) (subst (LegalFrom z s) h.are legal)
+  legal_half = legal_split z s half (by Collector h.sweeps) (subst (LegalFrom z s) h.found legal_parts.0)
 
   legal_front : LegalFrom z s front × LegalFrom z to_commit (done ∷ [])
   legal_front = legal_split z s front (done ∷ []) legal_half.0
@@ -277,7 +261,7 @@ module _ (z : Sizes) (budget : ℕ) (old piece : List Entry) (before : Legal z o
   committing =
       let marking : State = run (next s started) (notes ++ marks) in
       let same : to_commit ≡ marking = ap (run s) front_is in
-      let leaves = marks_leave (next s started) (notes ++ marks) (marks_append notes marks (keeps_mark h.begun.of) (slices_mark _ budget h.slices h.marked)) in
+      let leaves = marks_leave (next s started) (notes ++ marks) (all_append notes marks (keeps_mark h.begun.of) (slices_mark _ budget h.slices h.marked)) in
       let closed : marking.world.opened ≡ w.opened = ap (λ (t : State). t.world.opened) (sym same) ∙ legal_front.1.0.may.closed ∙ sym start_may.1 in
       ap (λ (t : State). t.world) same ∙ leaves ∙ ap (λ (opened : List Pass). record w { phase = Marking; opened = opened }) closed
 
@@ -298,23 +282,59 @@ module _ (z : Sizes) (budget : ℕ) (old piece : List Entry) (before : Legal z o
       (collect_is_exact_holds z old (old ++ half) budget
       (record { begins = h.begins; slices = h.slices; begun = h.begun; marked = h.marked; grown = grown; legal = joined }))
 
-  kept_scene : scene_of kept ≡ collected (scene_of w)
+  kept_scene : (scene_of kept ≡ collected (scene_of w)) × (names_of kept.removals ≡ unreached (scene_of w))
   kept_scene = committed_scene to_commit.marks w calm keeps_reached
 
-  has_found : HasFound kept (run s piece).world
+  -- the state after the sweeps
+  abbrev swept : State
+  swept = run s h.front
+
+  has_found : HasFound kept swept.world
   has_found =
-      let left : run s piece ≡ run (run s half) (by Collector h.sweeps) = ap (run s) h.are ∙ run-append s half (by Collector h.sweeps) in
+      let left : swept ≡ run (run s half) (by Collector h.sweeps) = ap (run s) h.found ∙ run-append s half (by Collector h.sweeps) in
       let none : Finds kept (run s half).world = subst (Finds kept) (sym half_world) (record { world = refl; different = refl; removed = λ n e. absurd cc }) in
       subst (λ (t : State). HasFound kept t.world) (sym left) (finds_all z kept (run s half) budget h.sweeps none legal_half.1 h.swept)
 
+  none_agreed : swept.collector.agreed ≡ None
+  none_agreed =
+      let more : List Entry = by Collector h.swept.more in
+      let last : List Act = act.Sweep budget h.swept.last h.swept.late ∷ [] in
+      let entries : h.front ≡ half ++ (more ++ by Collector last) = h.found ∙ ap (λ (es : List Entry). half ++ es) (ap (by Collector) h.swept.are ∙ by-append Collector h.swept.more last) in
+      ap (λ (es : List Entry). (run s es).collector.agreed) entries ∙ ap (λ (t : State). t.collector.agreed) (run-append s half (more ++ by Collector last) ∙ run-append (run s half) more (by Collector last))
+
+  gone_different : all_different (unreached (scene_of w)) ≡ true
+  gone_different = different_filter _ w.units (members_different z old before)
+
+  -- the removed objects are those that no root reaches
+  names_gone : names_of swept.world.removals ≡ unreached (scene_of w)
+  names_gone = ap (λ (v : World). names_of v.removals) has_found.world ∙ kept_scene.1
+
+  found_same : (n : Name) → has swept.world.found n ≡ has (unreached (scene_of w)) n
+  found_same n = has_found.same n ∙ ap (λ (names : List Name). has names n) kept_scene.1
+
+  -- and their number is that of the found ones
+  few : weight swept.world.removals ≤ 103 * length swept.world.found
+  few =
+      let count : length swept.world.found ≡ length (unreached (scene_of w)) = (same_order swept.world.found (unreached (scene_of w)) has_found.different gone_different found_same).1 in
+      let names : length swept.world.removals ≡ length (unreached (scene_of w)) = sym (length-map swept.world.removals (λ (r : Removal). r.name)) ∙ ap length names_gone in
+      omega (arith, weight_most swept.world.removals, count, names)
+
+  -- the purges leave nothing of them
+  ended : (run s piece).world ≡ record swept.world { removals = [] }
+  ended =
+      ap (λ (t : State). t.world) (ap (run s) h.are ∙ run-append s h.front ends)
+      ∙ purges_end z budget classes (103 * length swept.world.found) swept h.purges h.purged legal_parts.1
+      (λ n. subst (λ (v : World). (class_of v n).0 < classes) (sym has_found.world) (table n))
+      (record { different = ap all_different names_gone ∙ gone_different; agreed = λ n e. absurd (none_some swept.collector.agreed n none_agreed e) })
+      none_agreed (ap (λ (v : World). v.phase) has_found.world) few
+
   pub has_collected : HasCollected w piece (run s piece).world
   has_collected = record {
-    begun = ap first_begin h.are ∙ ap (λ (xs : List Entry). first_begin ((xs ++ done ∷ []) ++ by Collector h.sweeps)) front_is;
-    released = start_may.0.released;
+    begun = ap first_begin h.are ∙ ap (λ (xs : List Entry). first_begin (xs ++ ends)) h.found ∙ ap (λ (xs : List Entry). first_begin (((xs ++ done ∷ []) ++ by Collector h.sweeps) ++ ends)) front_is;
     closed = start_may.1;
-    gone = different_filter _ w.units (members_different z old before);
-    found = has_found.different;
-    same = λ n. has_found.same n ∙ ap (λ (c : Scene). has c.removed n) kept_scene;
-    scene = ap scene_of has_found.world ∙ kept_scene;
-    calm = subst IsCalm (sym has_found.world) (record { idle = refl; cells = calm.cells; pointers = calm.pointers });
+    gone = gone_different;
+    found = ap (λ (v : World). all_different v.found) ended ∙ has_found.different;
+    same = λ n. ap (λ (v : World). has v.found n) ended ∙ found_same n;
+    scene = ap scene_of ended ∙ ap scene_of has_found.world ∙ kept_scene.0;
+    calm = subst IsCalm (sym (ended ∙ ap (λ (v : World). record v { removals = [] }) has_found.world)) (record { idle = refl; released = refl; cells = calm.cells; pointers = calm.pointers });
   }

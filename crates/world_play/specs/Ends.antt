@@ -1,6 +1,5 @@
 -- How a run ends, and what it has done then.
-use Rattle.std.specs.Prelude.{◌≡◌, ◌≢◌, ℕ, ◌≤◌, ◌==◌, ◌⊎◌, Bool, true, false, List, [], ◌∷◌, length, drop, codes, string_bytes, String, Option, Some, None, IfSome}
-use Rattle.std.specs.List.{count_by}
+use Rattle.std.specs.Prelude.{◌≡◌, ◌≢◌, ℕ, ◌≤◌, ◌⊎◌, Bool, true, false, List, [], ◌∷◌, length, drop, codes, string_bytes, String, Option, Some, None, IfSome}
 use Rattle.std.specs.Str.{bytes_eq}
 use Rattle.std.specs.declared.alloc.Global.{Global}
 use Rattle.play_io.specs.Faults.{Rose}
@@ -9,9 +8,9 @@ use Rattle.level_script.specs.declared.limits.Limits.{Limits}
 use Rattle.level_script.specs.declared.cause.ScriptErr.{ScriptErr}
 use Rattle.level_script.specs.declared.script.Script.{Script}
 use Rattle.level_script.specs.Reading.{script_of, fault_of}
-use Rattle.world_play.specs.Types.{Entry, Line}
+use Rattle.world_play.specs.Types.{Entry}
 use Rattle.world_play.specs.Turns.{Played, Stopped}
-use Rattle.world_play.specs.Streams.{Gains, Gained}
+use Rattle.world_play.specs.Streams.{Gains, Gained, line_feeds}
 use Rattle.world_play.specs.Outcome.{outcome}
 use Rattle.world_play.specs.declared.status.Status.{Status}
 use Rattle.world_play.specs.declared.status.Status.TheVariants as status
@@ -82,14 +81,14 @@ HasRun status.Memory r = Unit {0}
 HasRun _ r = r ≡ None
 
 -- The engine played the script to its end and the sink took its text; or, where the run ended early, it played the first lines, and the sink took a beginning of their text.
-abbrev pub PlayedBy : Status → List Line → List Entry → Option (List ℕ) → Option (List ℕ) → ℕ → Type 0
-PlayedBy status.Ok lines history had has count = Played level 1000 lines history had has × (count ≡ length lines)
-PlayedBy _ lines history had has count = Stopped level 1000 lines history had has count
+abbrev pub PlayedBy : Status → Script → List Entry → Option (List ℕ) → Option (List ℕ) → ℕ → Type 0
+PlayedBy status.Ok script history had has count = Played level 1000 (length script.classes) script.lines history had has × (count ≡ length script.lines)
+PlayedBy _ script history had has count = Stopped level 1000 (length script.classes) script.lines history had has count
 
 -- Where there is an engine it played so; where there is none, nothing was put.
-abbrev pub WasPlayed : Status → List Line → Option Run → Option (List ℕ) → Option (List ℕ) → ℕ → Type 0
-WasPlayed how lines None had has count = (has ≡ had) × (count ≡ 0)
-WasPlayed how lines (Some engine) had has count = PlayedBy how lines (history_of engine) had has count
+abbrev pub WasPlayed : Status → Script → Option Run → Option (List ℕ) → Option (List ℕ) → ℕ → Type 0
+WasPlayed how script None had has count = (has ≡ had) × (count ≡ 0)
+WasPlayed how script (Some engine) had has count = PlayedBy how script (history_of engine) had has count
 
 -- ---- the whole run
 
@@ -134,19 +133,15 @@ SaysWrite before now _ = before ≤ now
 -- The headline: the whole input is a script, nothing of it is left, one legal history of this engine plays it, and the sink gained exactly its text.
 abbrev pub Headline : Option (List ℕ) → Option (List ℕ) → Option (List ℕ) → Option (List ℕ) → Option Run → Type 0
 Headline left now had has r = IfSome left (λ input. IfSome r (λ engine.
-    (script : Script) × (script_of input level_limits ≡ Some script) × (now ≡ Some []) × Played level 1000 script.lines (history_of engine) had has))
+    (script : Script) × (script_of input level_limits ≡ Some script) × (now ≡ Some []) × Played level 1000 (length script.classes) script.lines (history_of engine) had has))
 
 -- After a fault of the sink, or without memory: the input is a script, the history of this engine plays its first lines, of the next perhaps some calls, and the sink gained a beginning of the text.
 abbrev pub EndsEarly : Option (List ℕ) → Option (List ℕ) → Option (List ℕ) → ℕ → Run → Type 0
-EndsEarly left had has count engine = IfSome left (λ input. (script : Script) × (script_of input level_limits ≡ Some script) × Stopped level 1000 script.lines (history_of engine) had has count)
+EndsEarly left had has count engine = IfSome left (λ input. (script : Script) × (script_of input level_limits ≡ Some script) × Stopped level 1000 (length script.classes) script.lines (history_of engine) had has count)
 
 -- the sink gained the outcome of the script that the input is
 abbrev pub WritesOutcome : Option (List ℕ) → Option (List ℕ) → Option (List ℕ) → Type 0
 WritesOutcome left had has = IfSome left (λ input. (script : Script) × (script_of input level_limits ≡ Some script) × Gained had has (outcome level script.lines))
-
--- so many line feeds
-abbrev pub line_feeds : List ℕ → ℕ
-line_feeds bytes = count_by (λ b. b == 10) bytes
 
 -- the number is that of the line feeds that the sink gained
 abbrev pub CountsLines : Option (List ℕ) → Option (List ℕ) → ℕ → Type 0

@@ -22,11 +22,9 @@ pub record Scene : Type 0 where
   pub rooted : Name → Bool
   -- the lanes with an open frame
   pub opened : List Pass
-  -- the objects that were removed and are not released
-  pub removed : List Name
 
 abbrev pub first_scene : Scene
-first_scene = record { kinds = λ lane. []; units = []; rooted = λ n. false; opened = []; removed = [] }
+first_scene = record { kinds = λ lane. []; units = []; rooted = λ n. false; opened = [] }
 
 -- ---- a lane makes an object
 
@@ -38,7 +36,7 @@ abbrev pub names_left : Sizes → Scene → ℕ → ℕ
 names_left z c lane = z.names - made c lane
 
 abbrev pub free : Sizes → Scene → ℕ → ℕ
-free z c lane = z.quota - (count_by (λ n. n.lane == lane) (members c.units) + count_by (λ n. n.lane == lane) c.removed)
+free z c lane = z.quota - count_by (λ n. n.lane == lane) (members c.units)
 
 -- the name of the next object of a lane
 abbrev pub next_name : Scene → ℕ → Name
@@ -74,17 +72,16 @@ is_reached c u = list_any c.rooted u
 abbrev pub unreached : Scene → List Name
 unreached c = members (filter (λ u. not (is_reached c u)) c.units)
 
--- a collection waits for removed objects that are not released first, and for open frames then; else it removes what no root reaches, all of which is left
-abbrev pub collection : List Name → List Pass → List Name → Reply
-collection (n ∷ removed) opened gone = reply.Purging (length (n ∷ removed))
-collection [] (p ∷ opened) gone = reply.Pending (length (p ∷ opened))
-collection [] [] gone = reply.FullGc (length gone) (length gone) (in_name_order gone)
+-- a collection waits for open frames; else it removes what no root reaches, and as each class is ready when it is asked, all of it is destroyed and released
+abbrev pub collection : List Pass → List Name → Reply
+collection (p ∷ opened) gone = reply.Pending (length (p ∷ opened))
+collection [] gone = reply.FullGc (length gone) 0 (in_name_order gone)
 
 abbrev pub full_reply : Scene → Reply
-full_reply c = collection c.removed c.opened (unreached c)
+full_reply c = collection c.opened (unreached c)
 
 abbrev pub collected : Scene → Scene
-collected c = record c { units = filter (is_reached c) c.units; rooted = λ n. c.rooted n && not (has (unreached c) n); removed = unreached c }
+collected c = record c { units = filter (is_reached c) c.units; rooted = λ n. c.rooted n && not (has (unreached c) n) }
 
 abbrev pub with_collection : Scene → Reply → Scene
 with_collection c (reply.FullGc removed left names) = collected c

@@ -1,17 +1,21 @@
 -- What it is to play a script: its history is cut into one piece for each line.
-use Rattle.std.specs.Prelude.{◌≡◌, ◌≢◌, ℕ, nat_lt, Bool, true, false, ◌&&◌, ◌⊎◌, List, [], ◌∷◌, ◌++◌, length, flat_map, slice_index, Option, Some, None}
-use Rattle.world_play.specs.Types.{Name, Phase, Kind, CreateErr, Begin, Swept, Pass, Lane, Marker, Collector, Act, Entry}
+use Rattle.std.specs.Prelude.{◌≡◌, ◌≢◌, ℕ, ◌*◌, ◌-◌, ◌<◌, min, nat_lt, Bool, true, false, ◌&&◌, ◌⊎◌, List, [], ◌∷◌, ◌++◌, length, flat_map, slice_index, Option, Some, None}
+use Rattle.world_play.specs.Types.{Name, ClassId, Ready, Phase, Kind, CreateErr, Begin, Swept, Pass, Lane, Marker, Collector, Act, Entry}
 use Rattle.world_play.specs.Types.act
 use Rattle.world_play.specs.Types.begin
+use Rattle.world_play.specs.Types.purge
+use Rattle.world_play.specs.Types.ready
 use Rattle.world_play.specs.Types.commit
 use Rattle.world_play.specs.Types.stop
 use Rattle.world_play.specs.Types.sweep
 use Rattle.world_play.specs.Text.{in_name_order, text_of}
 use Rattle.world_model.specs.NameLists.{set_at}
+use Rattle.std.specs.List.{AllByRecursion}
 use Rattle.world_model.specs.World.{World, left_of}
+use Rattle.world_model.specs.Hooks.{class_of}
 use Rattle.world_model.specs.State.{State}
 use Rattle.world_model.specs.Next.{run}
-use Rattle.world_model.specs.Calls.{by, CallOf, MarksRoots, SlicesAlone, SlicesUntilIdle}
+use Rattle.world_model.specs.Calls.{by, CallOf, MarksRoots, SlicesAlone, SlicesUntilIdle, PurgesAlone}
 use Rattle.world_model.specs.Engines.{act_of_refusal}
 use Rattle.level_script.specs.Classes.{kind_of}
 use Rattle.level_script.specs.Frames.{fits_lane, fits_gc}
@@ -78,25 +82,49 @@ pub record SweepsAll (budget : ℕ) (sweeps : List Act) : Type 0 where
 abbrev pub Sweeping : List Act → List (List Act) → List Act → List Entry → Type 0
 Sweeping begins slices sweeps piece = piece ≡ ((by Collector begins ++ flat_map (by (Marker 0)) slices) ++ by Collector (act.CommitGc commit.Done ∷ [])) ++ by Collector sweeps
 
--- a whole collection ran: it began, slices marked until one was idle, it was committed, and sweeps found what it removed
-pub record Collected (budget : ℕ) (s : State) (piece : List Entry) : Type 0 where
+-- whether a class is ready when it is asked for the `poll`-th time: it is one of so many, and that is more than the polls that it refuses
+abbrev pub is_after : Ready → ℕ → Bool
+is_after (ready.After n) poll = nat_lt n poll
+is_after ready.Never poll = false
+
+abbrev pub is_ready : ℕ → ClassId → ℕ → Bool
+is_ready classes class poll = nat_lt class.0 classes && is_after (kind_of class).ready poll
+
+-- an object that is asked answers as its class does
+abbrev pub AnswersBy : ℕ → World → Act → Type 0
+AnswersBy classes w (act.Asked of poll answer) = answer ≡ is_ready classes (class_of w of) poll
+AnswersBy classes w a = Unit {0}
+
+-- purges in a row until no removed object is left, or they have made so many steps together; none may make more than are left to that bound
+unfoldable pub PurgesAll : ℕ → ℕ → ℕ → State → List (List Act) → Type 0
+PurgesAll budget classes bound s [] = (left_of s.world ≡ 0) ⊎ (bound ≡ 0)
+PurgesAll budget classes bound s (acts ∷ rest) =
+    (0 < left_of s.world) × (0 < bound)
+    × ((steps : ℕ) × (left : ℕ) × PurgesAlone (min budget bound) (purge.Ran steps left) acts × AllByRecursion (AnswersBy classes s.world) acts × PurgesAll budget classes (bound - steps) (run s (by Collector acts)) rest)
+
+-- a whole collection ran: it began, slices marked until one was idle, it was committed, sweeps found what it removed, and purges destroyed it, with at most 103 steps for each removed object
+pub record Collected (budget classes : ℕ) (s : State) (piece : List Entry) : Type 0 where
   pub begins : List Act
   pub slices : List (List Act)
   pub sweeps : List Act
+  pub purges : List (List Act)
+  pub front : List Entry
   pub begun : MarksRoots s.world (act.BeginGc begin.Started) begins
   pub marked : SlicesUntilIdle (run s (by Collector begins)) budget slices
   pub swept : SweepsAll budget sweeps
-  pub are : Sweeping begins slices sweeps piece
+  pub found : Sweeping begins slices sweeps front
+  pub purged : PurgesAll budget classes (103 * length (run s front).world.found) (run s front) purges
+  pub are : piece ≡ front ++ flat_map (by Collector) purges
 
 -- a whole collection, or the answer why none began
-abbrev pub CollectorPiece : ℕ → State → Cmd → List Entry → Type 0
-CollectorPiece budget s cmd.GcFull piece = ((why : Begin) × (why ≢ begin.Started) × OneCall s Collector (act.BeginGc why) piece) ⊎ Collected budget s piece
-CollectorPiece budget s _ piece = ⊥
+abbrev pub CollectorPiece : ℕ → ℕ → State → Cmd → List Entry → Type 0
+CollectorPiece budget classes s cmd.GcFull piece = ((why : Begin) × (why ≢ begin.Started) × OneCall s Collector (act.BeginGc why) piece) ⊎ Collected budget classes s piece
+CollectorPiece budget classes s _ piece = ⊥
 
 -- from a state and these bindings the entries are those of the line
-abbrev pub IsPiece : ℕ → State → Bindings → Who → Cmd → List Entry → Type 0
-IsPiece budget s names (who.Lane lane) what piece = LanePiece s names lane what piece
-IsPiece budget s names who.Gc what piece = CollectorPiece budget s what piece
+abbrev pub IsPiece : ℕ → ℕ → State → Bindings → Who → Cmd → List Entry → Type 0
+IsPiece budget classes s names (who.Lane lane) what piece = LanePiece s names lane what piece
+IsPiece budget classes s names who.Gc what piece = CollectorPiece budget classes s what piece
 
 -- ---- the reply in a piece
 
@@ -151,14 +179,14 @@ names_after names by what r = names
 -- ---- whole scripts
 
 -- from a state and these bindings the line has this piece and this reply, and leaves those bindings
-abbrev pub TurnBy : ℕ → State → Bindings → Who → Cmd → List Entry → Reply → Bindings → Type 0
-TurnBy budget s names by what piece r new = IsPiece budget s names by what piece × (r ≡ reply_in s by piece) × (new ≡ names_after names by what r)
+abbrev pub TurnBy : ℕ → ℕ → State → Bindings → Who → Cmd → List Entry → Reply → Bindings → Type 0
+TurnBy budget classes s names by what piece r new = IsPiece budget classes s names by what piece × (r ≡ reply_in s by piece) × (new ≡ names_after names by what r)
 
 -- these are the pieces of the lines in order, from a state and these bindings to those
-unfoldable pub Plays : ℕ → State → Bindings → List Line → List (List Entry) → Bindings → Type 0
-Plays budget s names [] [] new = new ≡ names
-Plays budget s names (l ∷ ls) (p ∷ ps) new = IsPiece budget s names l.who l.cmd p × Plays budget (run s p) (names_after names l.who l.cmd (reply_in s l.who p)) ls ps new
-Plays budget s names _ _ new = ⊥
+unfoldable pub Plays : ℕ → ℕ → State → Bindings → List Line → List (List Entry) → Bindings → Type 0
+Plays budget classes s names [] [] new = new ≡ names
+Plays budget classes s names (l ∷ ls) (p ∷ ps) new = IsPiece budget classes s names l.who l.cmd p × Plays budget classes (run s p) (names_after names l.who l.cmd (reply_in s l.who p)) ls ps new
+Plays budget classes s names _ _ new = ⊥
 
 -- the text of lines and their pieces: line by line that of the reply in the piece
 unfoldable pub text : State → List Line → List (List Entry) → List ℕ
@@ -177,14 +205,14 @@ SlicesSpent s budget [] = Unit {0}
 SlicesSpent s budget (acts ∷ rest) =
     (scanned : ℕ) × SlicesAlone s 0 budget (record { scanned = scanned; stop = stop.Spent }) acts × SlicesSpent (run s (by (Marker 0) acts)) budget rest
 
--- some calls of a whole collection, from the first on: its start and some slices; or its start, all slices, its commit and some sweeps
+-- some calls of a whole collection, from the first on: its start and some slices; or its start, all slices, its commit and some sweeps, or all of them
 pub record CollectedSome (budget : ℕ) (s : State) (part : List Entry) : Type 0 where
   pub begins : List Act
   pub slices : List (List Act)
   pub begun : MarksRoots s.world (act.BeginGc begin.Started) begins
   pub calls : (SlicesSpent (run s (by Collector begins)) budget slices × (part ≡ by Collector begins ++ flat_map (by (Marker 0)) slices))
       ⊎ (SlicesUntilIdle (run s (by Collector begins)) budget slices × (part ≡ by Collector begins ++ flat_map (by (Marker 0)) slices))
-      ⊎ ((sweeps : List Act) × SlicesUntilIdle (run s (by Collector begins)) budget slices × SweepsMore budget sweeps × Sweeping begins slices sweeps part)
+      ⊎ ((sweeps : List Act) × SlicesUntilIdle (run s (by Collector begins)) budget slices × (SweepsMore budget sweeps ⊎ SweepsAll budget sweeps) × Sweeping begins slices sweeps part)
 
 -- from a state the entries are those of some of the line's calls, from the first on, or of none
 abbrev pub IsPart : ℕ → State → Who → Cmd → List Entry → Type 0

@@ -1,17 +1,17 @@
 -- What the stages of a whole collection leave.
-use Rattle.std.specs.Prelude.{◌≡◌, ◌≤◌, ◌⊎◌, ℕ, List, [], ◌∷◌, ◌++◌, flat_map, length, IsTrue}
+use Rattle.std.specs.Prelude.{◌≡◌, ◌≤◌, ◌⊎◌, ◌*◌, ℕ, List, [], ◌∷◌, ◌++◌, flat_map, length, IsTrue}
 use Rattle.world_model.specs.Sizes.{Sizes, item_count}
 use Rattle.world_model.specs.State.{grey_units}
 use Rattle.world_model.specs.Histories.{state_of, after, Legal}
 use Rattle.world_model.specs.Calls.{by, SlicesUntilIdle}
 use Rattle.world_model.specs.Engines.{Holdings, KeepsHeld, no_slice}
-use Rattle.world_play.specs.Types.{Name, Marking, Gathering, Marker, Collector, Act, Entry, Reply}
+use Rattle.world_play.specs.Types.{Name, Idle, Marking, Gathering, Marker, Collector, Act, Entry, Reply}
 use Rattle.world_play.specs.Types.act
 use Rattle.world_play.specs.Types.commit
 use Rattle.world_play.specs.Types.cmd
 use Rattle.world_play.specs.Types.who
 use Rattle.world_play.specs.Types.begin
-use Rattle.world_play.specs.Plays.{SlicesSpent, SweepsMore, SweepsAll, CollectorPiece, full_reply, reply_in}
+use Rattle.world_play.specs.Plays.{SlicesSpent, SweepsMore, SweepsAll, PurgesAll, CollectorPiece, full_reply, reply_in}
 
 -- a collection marks, and nothing is open
 pub record IsMarking (z : Sizes) (history : List Entry) : Type 0 where
@@ -41,6 +41,12 @@ pub record IsGathering (z : Sizes) (history : List Entry) : Type 0 where
   pub alone : IsTrue (no_slice (after history))
   pub gathering : (after history).phase ≡ Gathering
 
+-- no collection runs, and no slice is open
+pub record HasSwept (z : Sizes) (history : List Entry) : Type 0 where
+  pub legal : Legal z history
+  pub alone : IsTrue (no_slice (after history))
+  pub idle : (after history).phase ≡ Idle
+
 -- sweeps found all that was removed
 pub record Finds (z : Sizes) (old new : List Entry) (budget : ℕ) (found : List Name) : Type 0 where
   pub sweeps : List Act
@@ -49,8 +55,7 @@ pub record Finds (z : Sizes) (old new : List Entry) (budget : ℕ) (found : List
   pub names : (after new).found ≡ (after old).found ++ found
   pub few : length found ≤ item_count z
   pub opened : (after new).opened ≡ (after old).opened
-  pub legal : Legal z new
-  pub alone : IsTrue (no_slice (after new))
+  pub now : HasSwept z new
 
 -- sweeps found some of it so far
 pub record FindsOn (z : Sizes) (old new : List Entry) (budget : ℕ) (found : List Name) : Type 0 where
@@ -73,17 +78,27 @@ pub record FindsSome (z : Sizes) (old new : List Entry) (budget : ℕ) : Type 0 
 abbrev pub GrowsBy : List Entry → List Entry → List (List Act) → List Act → Type 0
 GrowsBy old new slices sweeps = new ≡ ((old ++ flat_map (by (Marker 0)) slices) ++ by Collector (act.CommitGc commit.Done ∷ [])) ++ by Collector sweeps
 
--- the rest of a whole collection, once it has begun: it marked, was committed, and found what it removed
-pub record GoesOn (z : Sizes) (budget : ℕ) (old new : List Entry) (before now : Holdings) (r : Reply) : Type 0 where
-  pub slices : List (List Act)
-  pub sweeps : List Act
-  pub marked : SlicesUntilIdle (state_of old) budget slices
-  pub swept : SweepsAll budget sweeps
-  pub grown : GrowsBy old new slices sweeps
-  pub answer : r ≡ full_reply (after new) begin.Started
+-- purges destroyed what was found
+pub record Destroys (z : Sizes) (budget classes : ℕ) (old new : List Entry) : Type 0 where
+  pub purges : List (List Act)
+  pub purged : PurgesAll budget classes (103 * length (after old).found) (state_of old) purges
+  pub grown : new ≡ old ++ flat_map (by Collector) purges
+  pub found : (after new).found ≡ (after old).found
+  pub opened : (after new).opened ≡ (after old).opened
   pub legal : Legal z new
   pub alone : IsTrue (no_slice (after new))
-  pub opened : (after new).opened ≡ (after old).opened
+
+-- the rest of a whole collection, once it has begun: it marked, was committed, found what it removed, and destroyed it
+pub record GoesOn (z : Sizes) (budget classes : ℕ) (old new : List Entry) (before now : Holdings) (r : Reply) : Type 0 where
+  pub slices : List (List Act)
+  pub sweeps : List Act
+  pub front : List Entry
+  pub marked : SlicesUntilIdle (state_of old) budget slices
+  pub swept : SweepsAll budget sweeps
+  pub grown : GrowsBy old front slices sweeps
+  pub destroys : Destroys z budget classes front new
+  pub answer : r ≡ full_reply (after new) begin.Started
+  pub opened : (after front).opened ≡ (after old).opened
   pub held : KeepsHeld before now
 
 -- a part of that, up to some of its sweeps, or to all of them
@@ -96,10 +111,10 @@ pub record GoesOnSome (z : Sizes) (budget : ℕ) (old new : List Entry) : Type 0
   pub legal : Legal z new
 
 -- a whole collection, or why none began
-pub record Collects (z : Sizes) (budget : ℕ) (old new : List Entry) (before now : Holdings) (r : Reply) : Type 0 where
+pub record Collects (z : Sizes) (budget classes : ℕ) (old new : List Entry) (before now : Holdings) (r : Reply) : Type 0 where
   pub piece : List Entry
   pub grown : new ≡ old ++ piece
-  pub calls : CollectorPiece budget (state_of old) cmd.GcFull piece
+  pub calls : CollectorPiece budget classes (state_of old) cmd.GcFull piece
   pub answer : r ≡ reply_in (state_of old) who.Gc piece
   pub legal : Legal z new
   pub alone : IsTrue (no_slice (after new))

@@ -26,52 +26,52 @@ pub record IsReady (z : Sizes) (history : List Entry) (holds : Holdings) (lanes 
   pub room : played + 1 < 2 ^ 64
 
 -- A line was played.
-pub record Turned (z : Sizes) (budget : ℕ) (old new : List Entry) (holds : Holdings) (before now : List LaneVariables) (played : ℕ) (by : Who) (what : Cmd) (r : Reply) : Type 0 where
-  pub turn : (piece : List Entry) × (new ≡ old ++ piece) × TurnBy budget (state_of old) (shown before) by what piece r (shown now)
+pub record Turned (z : Sizes) (budget classes : ℕ) (old new : List Entry) (holds : Holdings) (before now : List LaneVariables) (played : ℕ) (by : Who) (what : Cmd) (r : Reply) : Type 0 where
+  pub turn : (piece : List Entry) × (new ≡ old ++ piece) × TurnBy budget classes (state_of old) (shown before) by what piece r (shown now)
   pub frames : frames_of (after new) ≡ frames_by (frames_of (after old)) by what
   pub numbers : numbers_of now ≡ numbers_of before
   pub legal : Legal z new
   pub alone : IsTrue (no_slice (after new))
   pub kept : AreKept holds now (played + 1)
 
--- A line was not played to its end: some of its calls were made, or all of them.
-pub record Broken (z : Sizes) (budget : ℕ) (old new : List Entry) (names : Bindings) (by : Who) (what : Cmd) : Type 0 where
+-- A line was not answered: some of its calls were made, or all of them.
+pub record Broken (z : Sizes) (budget classes : ℕ) (old new : List Entry) (names : Bindings) (by : Who) (what : Cmd) : Type 0 where
   pub part : List Entry
   pub grown : new ≡ old ++ part
-  pub made : IsPart budget (state_of old) by what part ⊎ IsPiece budget (state_of old) names by what part
+  pub made : IsPart budget (state_of old) by what part ⊎ IsPiece budget classes (state_of old) names by what part
   pub legal : Legal z new
 
 -- A line was played, and its reply put.
-pub record Answered (z : Sizes) (budget : ℕ) (old new : List Entry) (holds : Holdings) (before now : List LaneVariables) (played : ℕ) (l : Line) (had has : Option (List ℕ)) : Type 0 where
+pub record Answered (z : Sizes) (budget classes : ℕ) (old new : List Entry) (holds : Holdings) (before now : List LaneVariables) (played : ℕ) (l : Line) (had has : Option (List ℕ)) : Type 0 where
   pub reply : Reply
-  pub turned : Turned z budget old new holds before now played l.who l.cmd reply
+  pub turned : Turned z budget classes old new holds before now played l.who l.cmd reply
   pub put : Gained had has (text_of reply)
 
 -- the lines end here; or of the next line some calls were made and nothing was put, or all calls were made and a beginning of its text was put
-abbrev pub Stops : ℕ → State → Bindings → List Line → List Entry → List ℕ → Type 0
-Stops budget s names [] part some = (part ≡ []) × (some ≡ [])
-Stops budget s names (l ∷ ls) part some = (IsPart budget s l.who l.cmd part × (some ≡ [])) ⊎ (IsPiece budget s names l.who l.cmd part × IsStart some (text_of (reply_in s l.who part)))
+abbrev pub Stops : ℕ → ℕ → State → Bindings → List Line → List Entry → List ℕ → Type 0
+Stops budget classes s names [] part some = (part ≡ []) × (some ≡ [])
+Stops budget classes s names (l ∷ ls) part some = (IsPart budget s l.who l.cmd part × (some ≡ [])) ⊎ (IsPiece budget classes s names l.who l.cmd part × IsStart some (text_of (reply_in s l.who part)))
 
 -- A line was not played, or its reply was not put as a whole.
-pub record Unanswered (z : Sizes) (budget : ℕ) (old new : List Entry) (names : Bindings) (l : Line) (had has : Option (List ℕ)) : Type 0 where
+pub record Unanswered (z : Sizes) (budget classes : ℕ) (old new : List Entry) (names : Bindings) (l : Line) (had has : Option (List ℕ)) : Type 0 where
   pub part : List Entry
   pub some : List ℕ
   pub grown : new ≡ old ++ part
-  pub stops : Stops budget (state_of old) names (l ∷ []) part some
+  pub stops : Stops budget classes (state_of old) names (l ∷ []) part some
   pub legal : Legal z new
   pub put : Gained had has some
 
 -- The lines were played from the beginning, and their replies put: the history is legal, it is cut into the pieces of the lines, and what was put is their text.
-pub record Played (z : Sizes) (budget : ℕ) (lines : List Line) (history : List Entry) (had has : Option (List ℕ)) : Type 0 where
+pub record Played (z : Sizes) (budget classes : ℕ) (lines : List Line) (history : List Entry) (had has : Option (List ℕ)) : Type 0 where
   pub pieces : List (List Entry)
   pub last : Bindings
   pub legal : Legal z history
   pub cut : history ≡ entries_of pieces
-  pub plays : Plays budget beginning no_bindings lines pieces last
+  pub plays : Plays budget classes beginning no_bindings lines pieces last
   pub put : Gained had has (text beginning lines pieces)
 
 -- The first lines were played, and so many replies put as a whole; of the next line perhaps some calls were made, or all of them and a beginning of its text was put.
-pub record Stopped (z : Sizes) (budget : ℕ) (lines : List Line) (history : List Entry) (had has : Option (List ℕ)) (count : ℕ) : Type 0 where
+pub record Stopped (z : Sizes) (budget classes : ℕ) (lines : List Line) (history : List Entry) (had has : Option (List ℕ)) (count : ℕ) : Type 0 where
   pub whole : List Line
   pub rest : List Line
   pub pieces : List (List Entry)
@@ -81,7 +81,7 @@ pub record Stopped (z : Sizes) (budget : ℕ) (lines : List Line) (history : Lis
   pub legal : Legal z history
   pub are : lines ≡ whole ++ rest
   pub cut : history ≡ entries_of pieces ++ part
-  pub plays : Plays budget beginning no_bindings whole pieces names
-  pub stops : Stops budget (state_of (entries_of pieces)) names rest part some
+  pub plays : Plays budget classes beginning no_bindings whole pieces names
+  pub stops : Stops budget classes (state_of (entries_of pieces)) names rest part some
   pub put : Gained had has (text beginning whole pieces ++ some)
   pub number : count ≡ length whole

@@ -1,18 +1,23 @@
 //! Whole collections.
-ghost use Rattle.std.specs.Prelude.{◌≡◌, ◌≢◌, ◌≤◌, IfOk, OnErr, IsTrue};
+ghost use Rattle.std.specs.Prelude.{◌≡◌, ◌≢◌, ◌≤◌, length, IfOk, OnErr, IsTrue};
 ghost use Rattle.world_model.specs.Histories.{after, Legal};
 ghost use Rattle.world_model.specs.Engines.{KeepsHeld, no_slice};
-ghost use Rattle.world_model.specs.World.{World};
+ghost use Rattle.world_model.specs.World.{World, left_of};
 ghost use Rattle.world_play.specs.Types.begin;
 ghost use Rattle.world_play.specs.Types.cmd;
 ghost use Rattle.world_play.specs.Types.who;
 ghost use Rattle.world_play.specs.Plays.{Bindings, full_reply};
-ghost use Rattle.world_play.specs.Stages.{IsMarking, Marks, IsGathering, Finds, FindsSome, GoesOn, GoesOnSome, Collects};
+ghost use Rattle.world_play.specs.Stages.{IsMarking, Marks, IsGathering, Finds, FindsSome, HasSwept, Destroys, GoesOn, GoesOnSome, Collects};
 ghost use Rattle.world_play.specs.Turns.{Broken};
 
+use crate::hooks::ClassHooks;
 use crate::reply::Reply;
+use level_script::ClassTable;
 use std::alloc::{AllocError, Global};
-use world_model::{Begin, Engine, MarkStop, Name, Names, Shape, SweepStop};
+use world_model::{Begin, Engine, MarkStop, Name, Names, Purged, Shape, SweepStop};
+
+/// The most steps of destruction of a whole collection, for each object that it removed.
+const STEPS: u32 = 103;
 
 /// What stands in a buffer before a name is found.
 const NO_NAME: Name = Name { lane: 0, count: 0 };
@@ -71,15 +76,49 @@ fn refusal(why: Begin) -> Reply
     }
 }
 
+/// Destroys so many removed objects, in slices of so many steps, until none of them is left or 103
+/// steps were made for each. It tells how many are left.
+fn purge_all<S: Shape, E: Engine<S>>(
+    engine: &mut E,
+    classes: &ClassTable,
+    removed: u32,
+    budget: u32,
+) -> u32
+    requires some { 1 ≤ budget }
+    requires few { removed ≤ 1048576 }
+    requires swept { HasSwept S.sizes (E.history engine.old) }
+    requires found { removed ≡ length (after (E.history engine.old)).found }
+    ensures destroys { Destroys S.sizes budget (length classes.now) (E.history engine.old) (E.history engine.new) }
+    ensures left { result ≡ left_of (after (E.history engine.new)) }
+    ensures held { KeepsHeld (E.holds engine.old) (E.holds engine.new) }
+{
+    let mut hooks = ClassHooks { classes };
+    let mut bound = removed * STEPS;
+    let mut left = engine.left();
+    'purges: loop {
+        if left == 0 || bound == 0 {
+            return left;
+        }
+        match engine.purge(&mut hooks, budget.min(bound)) {
+            Purged::Ran { steps, left: rest } => {
+                bound -= steps;
+                left = rest;
+            }
+            Purged::Gathering => return left,
+        }
+    }
+}
+
 /// The rest of a whole collection, once it has begun.
 fn go_on<S: Shape, E: Engine<S>>(
     alloc: Global,
     engine: &mut E,
+    classes: &ClassTable,
     budget: u32,
 ) -> Result<Reply, AllocError>
     requires some { 1 ≤ budget }
     requires marking { IsMarking S.sizes (E.history engine.old) }
-    ensures all { IfOk result (λ reply. GoesOn S.sizes budget (E.history engine.old) (E.history engine.new) (E.holds engine.old) (E.holds engine.new) reply) }
+    ensures all { IfOk result (λ reply. GoesOn S.sizes budget (length classes.now) (E.history engine.old) (E.history engine.new) (E.holds engine.old) (E.holds engine.new) reply) }
     ensures some { OnErr result (GoesOnSome S.sizes budget (E.history engine.old) (E.history engine.new)) }
 {
     mark_all::<S, E>(engine, budget);
@@ -87,7 +126,7 @@ fn go_on<S: Shape, E: Engine<S>>(
     let mut names = sweep_all::<S, E>(alloc, engine, budget)?;
     names.sort_unstable();
     let removed = names.len() as u32;
-    let left = engine.left();
+    let left = purge_all::<S, E>(engine, classes, removed, budget);
     Ok(Reply::FullGc(removed, left, Names::from_vec(names)))
 }
 
@@ -95,16 +134,17 @@ fn go_on<S: Shape, E: Engine<S>>(
 pub(crate) fn full<S: Shape, E: Engine<S>>(
     alloc: Global,
     engine: &mut E,
+    classes: &ClassTable,
     budget: u32,
 ) -> Result<Reply, AllocError>
     requires some { 1 ≤ budget }
     requires legal { Legal S.sizes (E.history engine.old) }
     requires alone { IsTrue (no_slice (after (E.history engine.old))) }
-    ensures all { IfOk result (λ reply. Collects S.sizes budget (E.history engine.old) (E.history engine.new) (E.holds engine.old) (E.holds engine.new) reply) }
-    ensures some { OnErr result ((names : Bindings) → Broken S.sizes budget (E.history engine.old) (E.history engine.new) names who.Gc cmd.GcFull) }
+    ensures all { IfOk result (λ reply. Collects S.sizes budget (length classes.now) (E.history engine.old) (E.history engine.new) (E.holds engine.old) (E.holds engine.new) reply) }
+    ensures some { OnErr result ((names : Bindings) → Broken S.sizes budget (length classes.now) (E.history engine.old) (E.history engine.new) names who.Gc cmd.GcFull) }
 {
     match engine.begin() {
-        Begin::Started => go_on::<S, E>(alloc, engine, budget),
+        Begin::Started => go_on::<S, E>(alloc, engine, classes, budget),
         why => Ok(refusal(why)),
     }
 }

@@ -25,7 +25,7 @@ pub(crate) fn open<S: Shape, E: Engine<S>>(
     lane: u32,
 ) -> Reply
     requires { IsReady S.sizes (E.history engine.old) (E.holds engine.old) lanes.now played 0 (who.Lane lane) cmd.Open }
-    ensures { (budget : ℕ) → Turned S.sizes budget (E.history engine.old) (E.history engine.new) (E.holds engine.new) lanes.now lanes.now played (who.Lane lane) cmd.Open result }
+    ensures { (budget count : ℕ) → Turned S.sizes budget count (E.history engine.old) (E.history engine.new) (E.holds engine.new) lanes.now lanes.now played (who.Lane lane) cmd.Open result }
 {
     let _ = lanes;
     let _ = played;
@@ -41,7 +41,7 @@ pub(crate) fn close<S: Shape, E: Engine<S>>(
     lane: u32,
 ) -> Reply
     requires { IsReady S.sizes (E.history engine.old) (E.holds engine.old) lanes.old played 0 (who.Lane lane) cmd.Close }
-    ensures { (budget : ℕ) → Turned S.sizes budget (E.history engine.old) (E.history engine.new) (E.holds engine.new) lanes.old lanes.new played (who.Lane lane) cmd.Close result }
+    ensures { (budget count : ℕ) → Turned S.sizes budget count (E.history engine.old) (E.history engine.new) (E.holds engine.new) lanes.old lanes.new played (who.Lane lane) cmd.Close result }
 {
     let _ = played;
     engine.close_frame(lane);
@@ -68,7 +68,7 @@ pub(crate) fn root<S: Shape, E: Engine<S>>(
     on: bool,
 ) -> Reply
     requires { IsReady S.sizes (E.history engine.old) (E.holds engine.old) lanes.now played 0 (who.Lane lane) (cmd.Root var on) }
-    ensures { (budget : ℕ) → Turned S.sizes budget (E.history engine.old) (E.history engine.new) (E.holds engine.new) lanes.now lanes.now played (who.Lane lane) (cmd.Root var on) result }
+    ensures { (budget count : ℕ) → Turned S.sizes budget count (E.history engine.old) (E.history engine.new) (E.holds engine.new) lanes.now lanes.now played (who.Lane lane) (cmd.Root var on) result }
 {
     let _ = played;
     let Some(at) = lanes[lane as usize].get(var) else {
@@ -89,7 +89,7 @@ pub(crate) fn make<S: Shape, E: Engine<S>>(
     class: ClassId,
 ) -> Reply
     requires { IsReady S.sizes (E.history engine.old) (E.holds engine.old) lanes.old played (length classes.now) (who.Lane lane) (cmd.New var class) }
-    ensures { (budget : ℕ) → Turned S.sizes budget (E.history engine.old) (E.history engine.new) (E.holds engine.new) lanes.old lanes.new played (who.Lane lane) (cmd.New var class) result }
+    ensures { (budget count : ℕ) → Turned S.sizes budget count (E.history engine.old) (E.history engine.new) (E.holds engine.new) lanes.old lanes.new played (who.Lane lane) (cmd.New var class) result }
 {
     let _ = played;
     let kind = classes.kind(class);

@@ -9,6 +9,7 @@
 #![tactic(auto)]
 
 mod collection;
+mod hooks;
 mod lane;
 mod laws;
 mod player;
@@ -22,6 +23,7 @@ mod text;
 mod turn;
 mod variables;
 
+pub use hooks::ClassHooks;
 pub use laws::one_text;
 pub use play_io::{Failed, NoPace, Pace, PutErr, Sink, Source, SureSink, SureSource, Turn};
 pub use player::play;

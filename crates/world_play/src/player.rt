@@ -30,8 +30,8 @@ fn play_line<S: Shape, E: Engine<S>, K: Sink>(
     requires ready { IsReady S.sizes (E.history engine.old) (E.holds engine.old) lanes.old played (length classes.now) line.who line.cmd }
     ensures later { K.faults out.old ≤ K.faults out.new }
     ensures failed { result ≡ Err put.Failed → Rose (K.faults out.old) (K.faults out.new) }
-    ensures answered { OnOk result (Answered S.sizes budget (E.history engine.old) (E.history engine.new) (E.holds engine.new) lanes.old lanes.new played line (K.held out.old) (K.held out.new)) }
-    ensures unanswered { OnErr result (Unanswered S.sizes budget (E.history engine.old) (E.history engine.new) (shown lanes.old) line (K.held out.old) (K.held out.new)) }
+    ensures answered { OnOk result (Answered S.sizes budget (length classes.now) (E.history engine.old) (E.history engine.new) (E.holds engine.new) lanes.old lanes.new played line (K.held out.old) (K.held out.new)) }
+    ensures unanswered { OnErr result (Unanswered S.sizes budget (length classes.now) (E.history engine.old) (E.history engine.new) (shown lanes.old) line (K.held out.old) (K.held out.new)) }
 {
     let Ok(reply) = turn::<S, E>(alloc, engine, classes, lanes, played, budget, line) else {
         return Err(PutErr::Memory);
@@ -61,9 +61,9 @@ pub fn play<S: Shape, E: Engine<S>, K: Sink>(
     requires none { written.old ≡ 0 }
     ensures later { K.faults out.old ≤ K.faults out.new }
     ensures failed { result ≡ Err put.Failed → Rose (K.faults out.old) (K.faults out.new) }
-    ensures plays { OnOk result (Played S.sizes budget lines.now (E.history engine.new) (K.held out.old) (K.held out.new)) }
+    ensures plays { OnOk result (Played S.sizes budget (length classes.now) lines.now (E.history engine.new) (K.held out.old) (K.held out.new)) }
     ensures written { OnOk result (written.new ≡ length lines.now) }
-    ensures stopped { OnErr result (Stopped S.sizes budget lines.now (E.history engine.new) (K.held out.old) (K.held out.new) written.new) }
+    ensures stopped { OnErr result (Stopped S.sizes budget (length classes.now) lines.now (E.history engine.new) (K.held out.old) (K.held out.new) written.new) }
 {
     let Ok(mut variables) = unbound(alloc, counts) else {
         return Err(PutErr::Memory);

@@ -95,7 +95,7 @@ fn perform<K: Sink>(alloc: Global, script: &Script, out: &mut K) -> Ended
     ensures later { K.faults out.old ≤ K.faults out.new }
     ensures write { WritesFault (K.faults out.old) (K.faults out.new) result.status }
     ensures run { HasRun result.status result.run }
-    ensures played { WasPlayed result.status script.now.lines result.run (K.held out.old) (K.held out.new) result.lines }
+    ensures played { WasPlayed result.status script.now result.run (K.held out.old) (K.held out.new) result.lines }
     ensures unplayed { OnNone result.run (out.new ≡ out.old) }
 {
     let Ok(mut engine) = PlainHeap::<Level>::new(alloc) else {

@@ -167,13 +167,100 @@ fn what_no_root_reaches(rt: HostRuntime) {
     let script =
         "class A Object\n0 open\n0 new a A\n0 new b A\n0 root b on\n0 close\ngc full\n0 open\n0 new a A\n";
     let text =
-        "0 open idle\n0 new 0:1\n0 new 0:2\n0 was off\n0 close\ngc full removed 1 left 1: 0:1\n0 open idle\n0 new 0:3\n";
+        "0 open idle\n0 new 0:1\n0 new 0:2\n0 was off\n0 close\ngc full removed 1 left 0: 0:1\n0 open idle\n0 new 0:3\n";
     assert!(rt; plays(&rt, rt.alloc(), script, 7, Status::Ok, text, 8));
     let script =
         "0 open\n0 new a Object\n0 root a on\n0 root a off\n0 new a Object\n0 root a off\n1 open\n1 new a Object\n0 close\n1 close\ngc full\ngc full\n";
     let text =
-        "0 open idle\n0 new 0:1\n0 was off\n0 was on\n0 new 0:2\n0 was off\n1 open idle\n1 new 1:1\n0 close\n1 close\ngc full removed 3 left 3: 0:1 0:2 1:1\ngc purging 3\n";
+        "0 open idle\n0 new 0:1\n0 was off\n0 was on\n0 new 0:2\n0 was off\n1 open idle\n1 new 1:1\n0 close\n1 close\ngc full removed 3 left 0: 0:1 0:2 1:1\ngc full removed 0 left 0\n";
     assert!(rt; plays(&rt, rt.alloc(), script, 7, Status::Ok, text, 12));
+}
+
+#[test]
+fn a_hundred_collections(rt: HostRuntime) {
+    let mut script = String::new(rt.alloc());
+    let mut text = String::new(rt.alloc());
+    for k in 0..100u32 {
+        script
+            .push_str("0 open\n0 new a Object\n0 close\ngc full\n")
+            .expect(&rt, "memory");
+        let count = k + 1;
+        let more = format!(in rt.alloc();
+            "0 open idle\n0 new 0:{count}\n0 close\ngc full removed 1 left 0: 0:{count}\n"
+        ).expect(&rt, "memory");
+        text.push_str(more.as_str()).expect(&rt, "memory");
+    }
+    assert!(rt;
+        plays(
+            &rt,
+            rt.alloc(),
+            script.as_str(),
+            4096,
+            Status::Ok,
+            text.as_str(),
+            400
+        )
+    );
+}
+
+// Adds the lines of a lane that makes more objects than it has indexes, and their replies.
+fn fill_lane(alloc: Global, lane: u32, script: &mut String, text: &mut String) -> Option<()> {
+    let line = format!(in alloc; "{lane} open\n").ok()?;
+    script.push_str(line.as_str()).ok()?;
+    let line = format!(in alloc; "{lane} open idle\n").ok()?;
+    text.push_str(line.as_str()).ok()?;
+    let make = format!(in alloc; "{lane} new a Object\n").ok()?;
+    for k in 0..8192u32 {
+        let count = k + 1;
+        script.push_str(make.as_str()).ok()?;
+        let line = format!(in alloc; "{lane} new {lane}:{count}\n").ok()?;
+        text.push_str(line.as_str()).ok()?;
+    }
+    let line = format!(in alloc; "{lane} new a Object\n{lane} close\n").ok()?;
+    script.push_str(line.as_str()).ok()?;
+    let line = format!(in alloc; "{lane} full 0\n{lane} close\n").ok()?;
+    text.push_str(line.as_str()).ok()?;
+    Some(())
+}
+
+// Adds the names of all objects of a lane.
+fn name_lane(alloc: Global, lane: u32, text: &mut String) -> Option<()> {
+    for k in 0..8192u32 {
+        let count = k + 1;
+        let name = format!(in alloc; " {lane}:{count}").ok()?;
+        text.push_str(name.as_str()).ok()?;
+    }
+    Some(())
+}
+
+#[test]
+fn four_full_lanes(rt: HostRuntime) {
+    let mut script = String::new(rt.alloc());
+    let mut text = String::new(rt.alloc());
+    for lane in 0..4u32 {
+        assert!(rt; fill_lane(rt.alloc(), lane, &mut script, &mut text).is_some());
+    }
+    script
+        .push_str("gc full\n3 open\n3 new a Object\n")
+        .expect(&rt, "memory");
+    text.push_str("gc full removed 32768 left 0:")
+        .expect(&rt, "memory");
+    for lane in 0..4u32 {
+        assert!(rt; name_lane(rt.alloc(), lane, &mut text).is_some());
+    }
+    text.push_str("\n3 open idle\n3 new 3:8193\n")
+        .expect(&rt, "memory");
+    assert!(rt;
+        plays(
+            &rt,
+            rt.alloc(),
+            script.as_str(),
+            4096,
+            Status::Ok,
+            text.as_str(),
+            32783
+        )
+    );
 }
 
 #[test]

@@ -22,7 +22,7 @@ fn lane_turn<S: Shape, E: Engine<S>>(
     cmd: Cmd,
 ) -> Reply
     requires { IsReady S.sizes (E.history engine.old) (E.holds engine.old) lanes.old played (length classes.now) (who.Lane lane) cmd }
-    ensures { (budget : ℕ) → Turned S.sizes budget (E.history engine.old) (E.history engine.new) (E.holds engine.new) lanes.old lanes.new played (who.Lane lane) cmd result }
+    ensures { (budget count : ℕ) → Turned S.sizes budget count (E.history engine.old) (E.history engine.new) (E.holds engine.new) lanes.old lanes.new played (who.Lane lane) cmd result }
 {
     match cmd {
         Cmd::Open => open::<S, E>(engine, lanes, played, lane),
@@ -45,11 +45,11 @@ pub(crate) fn turn<S: Shape, E: Engine<S>>(
 ) -> Result<Reply, AllocError>
     requires some { 1 ≤ budget }
     requires ready { IsReady S.sizes (E.history engine.old) (E.holds engine.old) lanes.old played (length classes.now) line.who line.cmd }
-    ensures turned { IfOk result (λ reply. Turned S.sizes budget (E.history engine.old) (E.history engine.new) (E.holds engine.new) lanes.old lanes.new played line.who line.cmd reply) }
-    ensures broken { OnErr result (Broken S.sizes budget (E.history engine.old) (E.history engine.new) (shown lanes.old) line.who line.cmd) }
+    ensures turned { IfOk result (λ reply. Turned S.sizes budget (length classes.now) (E.history engine.old) (E.history engine.new) (E.holds engine.new) lanes.old lanes.new played line.who line.cmd reply) }
+    ensures broken { OnErr result (Broken S.sizes budget (length classes.now) (E.history engine.old) (E.history engine.new) (shown lanes.old) line.who line.cmd) }
 {
     match line.who {
         Who::Lane(lane) => Ok(lane_turn::<S, E>(engine, classes, lanes, played, lane, line.cmd)),
-        Who::Gc => full::<S, E>(alloc, engine, budget),
+        Who::Gc => full::<S, E>(alloc, engine, classes, budget),
     }
 }

@@ -13,8 +13,8 @@ go_on-requires-clause-marking g c = starts_marking _ _ _ c.in-Started.ensures.en
 
 pub returns-in-Started : goal.returns-in-Started
 returns-in-Started g c = record {
-  all = each_ok _ _ c.go_on.result (λ r on. collects_all _ _ _ _ _ _ _ _ r c.in-Started.ensures.entries c.in-Started.ensures.held on) c.go_on.ensures.all;
-  some = each_err _ _ c.go_on.result (λ on names. collects_some _ _ _ _ _ names c.in-Started.ensures.entries on) c.go_on.ensures.some;
+  all = each_ok _ _ c.go_on.result (λ r on. collects_all _ _ _ _ _ _ _ _ _ r c.in-Started.ensures.entries c.in-Started.ensures.held on) c.go_on.ensures.all;
+  some = each_err _ _ c.go_on.result (λ on names. collects_some _ _ _ _ _ _ names c.in-Started.ensures.entries on) c.go_on.ensures.some;
 }
 
 pub refusal-requires : goal.refusal-requires

@@ -21,25 +21,37 @@ overflow_cast-removed g c =
     let is = c.len-removed.ensures in
     omega arith
 
-pub returns : goal.returns
-returns g c =
+pub purge_all-left-requires-clause-swept : goal.purge_all-left-requires-clause-swept
+purge_all-left-requires-clause-swept g c = c.in_ok-names.ensures.finds.now
+
+pub purge_all-left-requires-clause-found : goal.purge_all-left-requires-clause-found
+purge_all-left-requires-clause-found g c =
     let marks = c.mark_all.ensures.marks in
     let finds = c.in_ok-names.ensures.finds in
     let committed = committed_all _ _ _ _ c.commit.ensures.entries marks.now marks.black in
     let found = finds.names ∙ ap (λ (names : List Name). names ++ c.in_ok-names.names.items) committed.3 in
+    c.len-removed.ensures ∙ c.sort_unstable.ensures.len ∙ c.in_ok-names.names.ok.0 ∙ ap length (sym found)
+
+pub returns : goal.returns
+returns g c =
+    let marks = c.mark_all.ensures.marks in
+    let finds = c.in_ok-names.ensures.finds in
+    let destroys = c.purge_all-left.ensures.destroys in
+    let committed = committed_all _ _ _ _ c.commit.ensures.entries marks.now marks.black in
+    let found = destroys.found ∙ finds.names ∙ ap (λ (names : List Name). names ++ c.in_ok-names.names.items) committed.3 in
     let sorted = sorted_names _ _ c.sort_unstable.ensures.permutation c.sort_unstable.ensures.sorted in
-    rw (c.left-left.ensures.same, c.from_vec.ensures) (record {
+    rw c.from_vec.ensures (record {
       all = record {
         slices = marks.slices;
         sweeps = finds.sweeps;
+        front = g.E.Engine.history c.sweep_all.new.engine;
         marked = marks.marked;
         swept = finds.swept;
         grown = finds.grown ∙ ap (λ (h : List Entry). h ++ by Collector finds.sweeps) (committed.2 ∙ ap (λ (h : List Entry). h ++ by Collector (act.CommitGc commit.Done ∷ [])) marks.grown);
-        answer = λ i. reply.FullGc ((c.len-removed.ensures ∙ c.sort_unstable.ensures.len ∙ c.in_ok-names.names.ok.0 ∙ ap length (sym found)) i) (c.left-left.ensures.left i) ((sorted ∙ ap in_name_order (sym found)) i);
-        legal = finds.legal;
-        alone = finds.alone;
+        destroys = destroys;
+        answer = λ i. reply.FullGc ((c.len-removed.ensures ∙ c.sort_unstable.ensures.len ∙ c.in_ok-names.names.ok.0 ∙ ap length (sym found)) i) (c.purge_all-left.ensures.left i) ((sorted ∙ ap in_name_order (sym found)) i);
         opened = finds.opened ∙ committed.1 ∙ marks.now.closed ∙ sym c.requires.marking.closed;
-        held = λ lane r h. c.left-left.ensures.held lane r (c.in_ok-names.ensures.held lane r (c.commit.ensures.held lane r (c.mark_all.ensures.held lane r h)));
+        held = λ lane r h. c.purge_all-left.ensures.held lane r (c.in_ok-names.ensures.held lane r (c.commit.ensures.held lane r (c.mark_all.ensures.held lane r h)));
       };
       some = tt;
     })

@@ -14,7 +14,7 @@ use Rattle.world_play.proofs.Turning.{make_frames, refuse_frames, fit_lane, fit_
 use Rattle.world_play.proofs.lane.make.Goals as goal
 
 pub returns-in-Ok : goal.returns-in-Ok
-returns-in-Ok g c budget =
+returns-in-Ok g c budget classes =
     let h = c.in-Ok.ensures.entries in
     let lane = c.args.lane in
     let lanes = c.args.lanes.now in
@@ -44,7 +44,7 @@ returns-in-Ok g c budget =
     }
 
 pub returns-in-Err : goal.returns-in-Err
-returns-in-Err g c budget =
+returns-in-Err g c budget classes =
     let h = c.in-Err.ensures.entries in
     let lane = c.args.lane in
     let lanes = c.args.lanes.now in

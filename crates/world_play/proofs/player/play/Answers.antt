@@ -18,7 +18,7 @@ pub loop-played-init : goal.loop-played-init
 unfolding text
 loop-played-init g c = rw (c.as_mut_slice-lanes.ensures.value, c.requires.start) (record {
   pieces = [];
-  plays = subst (λ (names : Bindings). Plays c.args.budget beginning no_bindings [] [] names) (sym (fresh_shown _ _ c.in-Ok.ensures)) (plays_none c.args.budget beginning no_bindings);
+  plays = subst (λ (names : Bindings). Plays c.args.budget (length c.args.classes.now) beginning no_bindings [] [] names) (sym (fresh_shown _ _ c.in-Ok.ensures)) (plays_none c.args.budget (length c.args.classes.now) beginning no_bindings);
   cut = refl;
   put = gained_none _;
   fit = framed_fit c.args.counts.now (length c.args.classes.now) _ _ _ c.args.lines.now (length-replicate _ false) (all_closed _) c.requires.framed;
@@ -52,12 +52,12 @@ loop-played-preserved g c =
     let line : Line = get_or c.args.lines.now c.loop-played.played none in
     let before : List Line = take c.loop-played.played c.args.lines.now in
     let fit = fit_at _ c.args.counts.now (length c.args.classes.now) _ c.args.lines.now c.loop-played.played none c.loop-played-test.true i.fit in
-    let turn = subst (λ (h : List Entry). TurnBy c.args.budget (state_of h) (shown c.loop-played.lanes) line.who line.cmd t.turn.0 a.reply (shown c.play_line.new.lanes)) i.cut t.turn.2 in
+    let turn = subst (λ (h : List Entry). TurnBy c.args.budget (length c.args.classes.now) (state_of h) (shown c.loop-played.lanes) line.who line.cmd t.turn.0 a.reply (shown c.play_line.new.lanes)) i.cut t.turn.2 in
     rw (take_more c.args.lines.now c.loop-played.played none c.loop-played-test.true) (record {
       pieces = i.pieces ++ t.turn.0 ∷ [];
-      plays = plays_more c.args.budget beginning no_bindings _ _ before line i.pieces t.turn.0 a.reply i.plays turn;
+      plays = plays_more c.args.budget (length c.args.classes.now) beginning no_bindings _ _ before line i.pieces t.turn.0 a.reply i.plays turn;
       cut = t.turn.1 ∙ ap (λ (h : List Entry). h ++ t.turn.0) i.cut ∙ sym (entries_more i.pieces t.turn.0);
-      put = subst (Gained (g.K.Sink.held c.args.out.now) (g.K.Sink.held c.play_line.new.out)) (ap (λ (r : Reply). text beginning before i.pieces ++ text_of r) turn.1 ∙ sym (text_more c.args.budget beginning no_bindings _ before line i.pieces t.turn.0 i.plays))
+      put = subst (Gained (g.K.Sink.held c.args.out.now) (g.K.Sink.held c.play_line.new.out)) (ap (λ (r : Reply). text beginning before i.pieces ++ text_of r) turn.1 ∙ sym (text_more c.args.budget (length c.args.classes.now) beginning no_bindings _ before line i.pieces t.turn.0 i.plays))
           (gained_both _ _ _ (text beginning before i.pieces) (text_of a.reply) i.put a.put);
       fit = rw t.frames fit.1;
       numbers = t.numbers ∙ i.numbers;
@@ -69,9 +69,9 @@ loop-played-preserved g c =
     })
 
 pub returns-in_default-clause-stopped : goal.returns-in_default-clause-stopped
-returns-in_default-clause-stopped g c = stopped_first _ _ _ _ _ _ c.requires.start c.requires.none
+returns-in_default-clause-stopped g c = stopped_first _ _ _ _ _ _ _ c.requires.start c.requires.none
 
 pub returns-in_err-play_line-clause-stopped : goal.returns-in_err-play_line-clause-stopped
 returns-in_err-play_line-clause-stopped g c =
     let i = c.loop-played.invariant in
-    err_holds _ _ (stopped_at _ _ c.args.lines.now c.loop-played.played (record { number = 0; who = who.Lane 0; cmd = cmd.Open }) i.pieces _ _ _ _ _ _ _ c.loop-played-test.true i.plays i.cut i.put i.written c.in_err-play_line.ensures.unanswered)
+    err_holds _ _ (stopped_at _ _ _ c.args.lines.now c.loop-played.played (record { number = 0; who = who.Lane 0; cmd = cmd.Open }) i.pieces _ _ _ _ _ _ _ c.loop-played-test.true i.plays i.cut i.put i.written c.in_err-play_line.ensures.unanswered)

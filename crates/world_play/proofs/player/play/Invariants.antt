@@ -14,7 +14,7 @@ invariant-loop-played g l =
     let history = g.E.Engine.history in
     record {
       pieces : List (List Entry);
-      plays : Plays l.budget beginning no_bindings (take l.played l.lines) pieces (shown l.lanes);
+      plays : Plays l.budget (length l.classes) beginning no_bindings (take l.played l.lines) pieces (shown l.lanes);
       cut : history l.engine ≡ entries_of pieces;
       put : Gained (g.K.Sink.held l.fn.out) (g.K.Sink.held l.out) (text beginning (take l.played l.lines) pieces);
       fit : are_fit g.S.Shape.sizes.lanes l.counts (length l.classes) (frames_of (after (history l.engine))) (drop l.played l.lines) ≡ true;

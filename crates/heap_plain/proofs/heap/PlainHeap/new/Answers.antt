@@ -1,4 +1,4 @@
-use Rattle.std.proofs.Common.{sym, ◌∙◌}
+use Rattle.std.proofs.Common.{sym, ◌∙◌, None}
 use Rattle.heap_plain.specs.Types.{Idle}
 use Rattle.heap_plain.proofs.Beginning.{begins_as}
 use Rattle.heap_plain.proofs.heap.PlainHeap.new.Goals as goal
@@ -11,17 +11,26 @@ invariant_of-result g c =
       firsts = sym c.in_ok-filled-2.ensures t;
       sizes = sym c.in_ok-filled-3.ensures t;
       next = sym c.in_ok-filled-4.ensures t;
-      lives = sym c.in_ok-filled-5.ensures t;
-      roots = sym c.in_ok-filled-6.ensures t;
-      marked = sym c.in_ok-filled-7.ensures t;
-      work = sym c.in_ok-filled-8.ensures t;
+      classes = sym c.in_ok-filled-5.ensures t;
+      lives = sym c.in_ok-filled-6.ensures t;
+      roots = sym c.in_ok-filled-7.ensures t;
+      marked = sym c.in_ok-filled-8.ensures t;
+      work = sym c.in_ok-filled-9.ensures t;
       scanned = 0;
       pushed = 0;
       free = sym c.in_ok-full_stacks.ensures t;
-      spare = sym c.in_ok-filled-9.ensures t;
-      made = sym c.in_ok-filled-10.ensures t;
-      frames = sym c.in_ok-filled-11.ensures t;
+      spare = sym c.in_ok-filled-10.ensures t;
+      made = sym c.in_ok-filled-11.ensures t;
+      frames = sym c.in_ok-filled-12.ensures t;
       phase = Idle;
       left = 0;
       swept = 0;
+      order = sym c.in_ok-filled-13.ensures t;
+      listed = 0;
+      begun = 0;
+      from = 0;
+      kept = 0;
+      polls = sym c.in_ok-filled-14.ensures t;
+      waiting = sym c.in_ok-filled-15.ensures t;
+      done = None;
     }))

@@ -1,4 +1,4 @@
-use Rattle.std.proofs.Common.{refl, sym, ◌∙◌, ◌∷◌, []}
+use Rattle.std.proofs.Common.{◌≡◌, refl, sym, ◌∙◌, arith, ◌∷◌, [], length}
 use Rattle.heap_plain.specs.Types.act
 use Rattle.heap_plain.specs.Types.commit
 use Rattle.heap_plain.proofs.CommitSteps.{refuses_commit, commits_alone, refuses_commit_held, done_facts, commits, commits_held}
@@ -8,19 +8,21 @@ pub invariant_of-self : goal.invariant_of-self
 invariant_of-self g c =
     let m = rw (c.count_open.ensures, c.deref.ensures.value) at c.may_end-reply.ensures in
     let facts = done_facts _ _ _ _ m (sym c.is_done.ensures ∙ c.if-is_done.true) in
+    let count : c.len-items.result ≡ length c.self.inside.polls.items = omega (arith, c.len-items.ensures, c.self.inside.polls.ok.0) in
     rw (c.commit_gc.ensures, facts.0) (commits _ _ _ _ c.self.invariant facts.1 facts.2 facts.3
-    (rw (c.deref-then-is_done.ensures.value, c.deref-then-is_done-2.ensures.value) at c.remove_white.ensures))
+    (rw (c.deref-then-is_done-2.ensures.value, c.deref-then-is_done-3.ensures.value) at c.remove_white.ensures) _ _ (rw count at c.fill.ensures) (rw (c.deref-then-is_done.ensures.value) at c.copy.ensures))
 
 pub returns-then-is_done-clause-entries : goal.returns-then-is_done-clause-entries
 returns-then-is_done-clause-entries g c =
     let m = rw (c.count_open.ensures, c.deref.ensures.value) at c.may_end-reply.ensures in
     let facts = done_facts _ _ _ _ m (sym c.is_done.ensures ∙ c.if-is_done.true) in
+    let count : c.len-items.result ≡ length c.self.inside.polls.items = omega (arith, c.len-items.ensures, c.self.inside.polls.ok.0) in
     rw (← c.self.view_is, c.commit_gc.ensures, facts.0) (record {
       acts = act.CommitGc commit.Done ∷ [];
       call = commits_alone _ _ _ commit.Done c.self.invariant (facts.1, facts.2, facts.3);
       grown = refl;
       legal = (commits _ _ _ _ c.self.invariant facts.1 facts.2 facts.3
-          (rw (c.deref-then-is_done.ensures.value, c.deref-then-is_done-2.ensures.value) at c.remove_white.ensures)).legal;
+          (rw (c.deref-then-is_done-2.ensures.value, c.deref-then-is_done-3.ensures.value) at c.remove_white.ensures) _ _ (rw count at c.fill.ensures) (rw (c.deref-then-is_done.ensures.value) at c.copy.ensures)).legal;
     })
 
 pub returns-then-is_done-clause-held : goal.returns-then-is_done-clause-held

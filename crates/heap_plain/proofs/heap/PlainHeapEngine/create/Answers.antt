@@ -45,19 +45,27 @@ fill_popped-requires g c =
           (c.QUOTA.ensures ∙ g.S.Shape.constants.quota) c.self.invariant.shows.units.firsts_len c.deref-3.ensures.value c.in_default.ensures.1;
     }
 
+pub classify-requires : goal.classify-requires
+classify-requires g c =
+    let frame = rw (← c.self.view_is) at c.requires.frame in
+    record {
+      stack = pops c.self.invariant.shows.free _ _ _ _ _ _ frame.in_range c.index-spare.ensures
+          (c.QUOTA.ensures ∙ g.S.Shape.constants.quota) c.self.invariant.shows.classes.len c.deref-4.ensures.value c.in_default.ensures.1;
+    }
+
 pub fill_popped-requires-2 : goal.fill_popped-requires-2
 fill_popped-requires-2 g c =
     let frame = rw (← c.self.view_is) at c.requires.frame in
     record {
       stack = pops c.self.invariant.shows.free _ _ _ _ _ _ frame.in_range c.index-spare.ensures
-          (c.QUOTA.ensures ∙ g.S.Shape.constants.quota) c.self.invariant.shows.units.lives_len c.deref-4.ensures.value c.in_default.ensures.1;
+          (c.QUOTA.ensures ∙ g.S.Shape.constants.quota) c.self.invariant.shows.units.lives_len c.deref-5.ensures.value c.in_default.ensures.1;
     }
 
 pub link-requires-clause-stack : goal.link-requires-clause-stack
 link-requires-clause-stack g c =
     let frame = rw (← c.self.view_is) at c.requires.frame in
     pops c.self.invariant.shows.free _ _ _ _ _ _ frame.in_range c.index-spare.ensures
-    (c.QUOTA.ensures ∙ g.S.Shape.constants.quota) c.self.invariant.shows.units.links_len c.deref-5.ensures.value c.in_default.ensures.1
+    (c.QUOTA.ensures ∙ g.S.Shape.constants.quota) c.self.invariant.shows.units.links_len c.deref-6.ensures.value c.in_default.ensures.1
 
 pub index_mut-requires : goal.index_mut-requires
 index_mut-requires g c =
@@ -77,7 +85,7 @@ pub answer-requires-clause-room : goal.answer-requires-clause-room
 answer-requires-clause-room g c =
     let frame = rw (← c.self.view_is) at c.requires.frame in
     (pops c.self.invariant.shows.free _ _ _ _ _ _ frame.in_range c.index-spare.ensures
-    (c.QUOTA.ensures ∙ g.S.Shape.constants.quota) refl c.deref-6.ensures.value c.in_default.ensures.1).room
+    (c.QUOTA.ensures ∙ g.S.Shape.constants.quota) refl c.deref-7.ensures.value c.in_default.ensures.1).room
 
 -- what the calls before the last one have written
 creation : (g : Over) (c : goal.After-out-1 g) → Creation g.S.Shape.sizes (record {
@@ -85,6 +93,7 @@ creation : (g : Over) (c : goal.After-out-1 g) → Creation g.S.Shape.sizes (rec
   firsts = c.self.inside.firsts.items;
   sizes = c.self.inside.sizes.items;
   next = c.self.inside.next.items;
+  classes = c.self.inside.classes.items;
   lives = c.self.inside.lives.items;
   roots = c.self.inside.roots.items;
   marked = c.self.inside.marked.items;
@@ -98,7 +107,15 @@ creation : (g : Over) (c : goal.After-out-1 g) → Creation g.S.Shape.sizes (rec
   phase = c.self.inside.phase;
   left = c.self.inside.left;
   swept = c.self.inside.swept;
-}) c.self.inside.diary c.args.lane c.index-made.result.now c.args.kinds.now c.place.new.names.items c.fill_popped.new.items.items c.link.new.next.items c.fill_popped-2.new.items.items
+  order = c.self.inside.order.items;
+  listed = c.self.inside.listed;
+  begun = c.self.inside.begun;
+  from = c.self.inside.from;
+  kept = c.self.inside.kept;
+  polls = c.self.inside.polls.items;
+  waiting = c.self.inside.waiting.items;
+  done = c.self.inside.done;
+}) c.self.inside.diary c.args.lane c.index-made.result.now c.args.kinds.now c.place.new.names.items c.fill_popped.new.items.items c.link.new.next.items c.classify.new.classes.items c.fill_popped-2.new.items.items
 creation g c =
     let frame = rw (← c.self.view_is) at c.requires.frame in
     let s = c.self.invariant.shows in
@@ -117,8 +134,9 @@ creation g c =
       room = omega (arith, d.1, now);
       by_name = rw (c.deref-2.ensures.value, c.QUOTA.ensures, k.quota, now) at c.place.ensures;
       by_first = rw (c.popped-head.ensures, c.deref.ensures.value, c.deref-3.ensures.value, c.QUOTA.ensures, k.quota, now) at c.fill_popped.ensures;
-      by_life = rw (c.deref-4.ensures.value, c.QUOTA.ensures, k.quota, now) at c.fill_popped-2.ensures;
-      by_next = rw (c.deref-5.ensures.value, c.QUOTA.ensures, k.quota, now) at c.link.ensures;
+      by_class = rw (c.deref-4.ensures.value, c.QUOTA.ensures, k.quota, now) at c.classify.ensures;
+      by_life = rw (c.deref-5.ensures.value, c.QUOTA.ensures, k.quota, now) at c.fill_popped-2.ensures;
+      by_next = rw (c.deref-6.ensures.value, c.QUOTA.ensures, k.quota, now) at c.link.ensures;
     }
 
 pub invariant_of-self-2 : goal.invariant_of-self-2
@@ -138,7 +156,7 @@ pub returns-clause-given : goal.returns-clause-given
 returns-clause-given g c = λ i other below.
     let now = spare_read c.self.invariant.shows.free _ _ (creation g c).lane c.index-spare.ensures in
     let there = from_start c.answer.ensures i other (omega (arith, c.answer.ensures.len)) in
-    rw (c.make.ensures, there, c.deref-6.ensures.value, c.QUOTA.ensures, g.S.Shape.constants.quota, now) (new_held (creation g c) i (omega (arith, c.answer.ensures.len, c.requires.room)))
+    rw (c.make.ensures, there, c.deref-7.ensures.value, c.QUOTA.ensures, g.S.Shape.constants.quota, now) (new_held (creation g c) i (omega (arith, c.answer.ensures.len, c.requires.room)))
 
 pub returns-clause-held : goal.returns-clause-held
 returns-clause-held g c = rw (← c.self.view_is, c.make.ensures) (still_held (creation g c))

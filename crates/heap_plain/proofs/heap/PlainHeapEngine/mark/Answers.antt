@@ -1,5 +1,11 @@
-use Rattle.heap_plain.proofs.SliceSteps.{grey_cut, sliced_invariant, sliced_appends, sliced_held, grey_named}
+use Rattle.std.proofs.Common.{arith}
+use Rattle.heap_plain.proofs.SliceSteps.{grey_cut, sliced_invariant, sliced_appends, sliced_held, grey_named, grey_below}
 use Rattle.heap_plain.proofs.heap.PlainHeapEngine.mark.Goals as goal
+
+pub scan_units-units-requires-clause-sizes : goal.scan_units-units-requires-clause-sizes
+scan_units-units-requires-clause-sizes g c =
+    let cut = grey_cut c.self.inside.work.items c.self.inside.scanned c.self.inside.pushed c.self.invariant.shows.work.order in
+    rw (c.deref-2.ensures.value, c.deref-3.ensures.value, cut) (λ k b. omega (arith, grey_below _ _ _ c.self.invariant k b, c.self.invariant.shows.units.sizes_len))
 
 pub scan_units-units-requires-clause-named : goal.scan_units-units-requires-clause-named
 scan_units-units-requires-clause-named g c =

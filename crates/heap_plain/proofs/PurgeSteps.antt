@@ -1,0 +1,590 @@
+-- The steps of destruction that begin and that ask.
+use Rattle.std.proofs.Common.{◌≡◌, ◌≢◌, ℕ, ◌+◌, ◌-◌, ◌<◌, ◌≤◌, ◌==◌, ◌||◌, ◌&&◌, ◌⊎◌, min, refl, sym, subst, subst₂, ap, ◌∙◌, inl, inr, zero, suc, arith, nat_lt, Bool, cond, if◌then◌else◌, true, false, not, List, [], ◌∷◌, ◌++◌, append-nil, append_assoc, length, map, find, take, drop, get_or, count_by, Option, Some, None, IsSome, option_and_then}
+use Rattle.std.specs.List.{list_any, list_all}
+use Rattle.std.specs.Option.{option_map_or}
+use Rattle.std.proofs.Math.ListN.{set}
+use Rattle.std.proofs.Math.Logic.{dite}
+use Rattle.std.proofs.Math.Decide.{ℕ_discrete}
+use Rattle.std.proofs.lemmas.Bool.{eqb-true, eqb-false}
+use Rattle.std.proofs.lemmas.Bool.Decides.{nat_tests}
+use Rattle.std.proofs.lemmas.List.{length-set, get_or-set_same, get_or-set_other, get_or-take, length-take-le, take_more, take_more_set, drop_more, drop_all, drop-take, drop-set-lt}
+use Rattle.world_model.specs.Sizes.{Sizes, item_count}
+use Rattle.world_model.specs.NameLists.{same_name, has, members, all_different, first_member}
+use Rattle.world_model.specs.World.{World, Removal, Removed as AtRemoved, Begun as AtBegun, Finished as AtFinished, is_at, polls_of, destruction_order}
+use Rattle.world_model.specs.State.{State, Marks, Slicing, Collecting}
+use Rattle.world_model.specs.Next.{next, at_stage, polled, run}
+use Rattle.world_model.specs.CollectorSteps.{to_release}
+use Rattle.world_model.specs.Histories.{MayBy, LegalFrom}
+use Rattle.world_model.specs.Calls.{by}
+use Rattle.world_model.proofs.ListFacts.{Among, among_filter_test}
+use Rattle.world_model.proofs.NameFacts.{same_name_true, same_name_refl}
+use Rattle.world_model.proofs.Rounds.{in_removals_at, one_stage, is_at-at_stage_same, is_at-at_stage_other, is_at-polled}
+use Rattle.world_model.proofs.Queues.{IsQueue, in_order, queue_begin, queue_begun, queue_ask, queue_refused, queue_agreed, queue_least}
+use Rattle.heap_plain.specs.Types.{Name, Phase, Idle, Marking, Gathering, Collector, Act, Entry}
+use Rattle.heap_plain.specs.Types.act
+use Rattle.heap_plain.specs.declared.life.Life.{Life}
+use Rattle.heap_plain.specs.declared.life.Life.TheVariants.{Free, Live, Removed, Begun, Finished}
+use Rattle.heap_plain.specs.Parts.{Parts, name_at, life_at, first_at, is_gone, stage_of}
+use Rattle.heap_plain.specs.Purging.{turned, next_poll, finished_unit, asked_acts}
+use Rattle.heap_plain.specs.Sections.{Distinct, AreLinked, RemovedShow, removal_at, GoneShow, LiesAt, OrderShows, QueueShows, AreNamed, ReadyAt, gone_world, todo_of, ring_of, at_end, still_there}
+use Rattle.heap_plain.specs.Plain.{Shows, calm}
+use Rattle.heap_plain.proofs.WorldFacts.{has_among, among_has, among_test}
+use Rattle.heap_plain.proofs.NewNames.{among_members, members_among}
+use Rattle.heap_plain.proofs.Queueing.{named_append, named_first}
+use Rattle.heap_plain.proofs.SliceSteps.{count_cons}
+use Rattle.heap_plain.proofs.CommitSteps.{distinct_left, distinct_right}
+use Rattle.heap_plain.proofs.SweepSteps.{distinct_different, name_among}
+use Rattle.heap_plain.proofs.Gathering.{same_unit, in_order_of}
+use Rattle.heap_plain.proofs.Restaging.{SameLives, lives_same, lives_set, gone_below, units_lives, roots_lives, held_lives, free_lives, changed, names_changed, count_changed, there_changed, removed_changed, gone_changed, gone_index}
+
+-- ---- the vectors after a step
+
+-- the state with other removals
+abbrev with_removals : State → List Removal → Marks → (ℕ → Slicing) → Collecting → State
+with_removals s rs marks slices collector = record { world = record (s.world) { removals = rs }; marks = marks; frames = s.frames; slices = slices; collector = collector }
+
+purged_shows : {z : Sizes} {p : Parts} {s : State} {ls : List Life} {ps ws order : List ℕ} {listed begun from kept : ℕ} {done : Option ℕ} {rs : List Removal} {marks : Marks} {slices : ℕ → Slicing} {collector : Collecting}
+    → Shows z p s → p.phase ≡ Idle → SameLives p.lives ls → RemovedShow z p.names ls ps p.left p.swept s.world.phase rs s.world.found s.world.swept
+    → GoneShow z p.names p.firsts p.sizes p.next ws ls rs s.world.last_removed → ((lane : ℕ) → count_by (λ r. r.name.lane == lane) rs ≡ count_by (λ r. r.name.lane == lane) s.world.removals)
+    → OrderShows z order listed begun from kept → QueueShows p.names order listed begun from kept done rs s.world.last_removed s.world.found collector.asked
+    → collector.agreed ≡ None → collector.steps ≡ 0
+    → Shows z (record p { lives = ls; polls = ps; waiting = ws; order = order; listed = listed; begun = begun; from = from; kept = kept; done = done }) (with_removals s rs marks slices collector)
+purged_shows k idle same removed gone counts order queue agreed steps = record {
+  phase = k.phase;
+  frames = k.frames;
+  names = k.names;
+  units = units_lives same k.units;
+  distinct = k.distinct;
+  roots = roots_lives same k.roots;
+  held = held_lives same k.held;
+  work = k.work;
+  idle = k.idle;
+  marks = λ e. absurd (let a = idle in cc);
+  roots_marked = λ e. absurd (let a = idle in cc);
+  classes = k.classes;
+  removed = removed;
+  gone = gone;
+  order = order;
+  gathers = λ e. absurd (let a = idle in cc);
+  queue = λ e. queue;
+  free = free_lives same counts k.free;
+  none_agreed = agreed;
+  none_asked = λ ne. absurd (ne idle);
+  no_steps = steps;
+}
+
+count_alike : (p q : Name → Bool) (u : List Name) → ((n : Name) → Among u n → p n ≡ q n) → count_by p u ≡ count_by q u
+count_alike p q [] h = refl
+count_alike p q (n ∷ u) h =
+    let rest = count_alike p q u (λ m a. h m (inr a)) in
+    let a = count_cons (λ (m : Name). cond {A = ℕ} (p m) 1 0) n u in
+    let b = count_cons (λ (m : Name). cond {A = ℕ} (q m) 1 0) n u in
+    let same : cond {A = ℕ} (p n) 1 0 ≡ cond {A = ℕ} (q n) 1 0 = ap (λ (x : Bool). cond {A = ℕ} x 1 0) (h n (inl refl)) in
+    omega arith
+
+-- one that passed does not any more
+count_less : (p q : Name → Bool) (n : Name) (u : List Name) → Distinct u → Among u n → p n ≡ true → q n ≡ false → ((m : Name) → same_name n m ≡ false → p m ≡ q m) → count_by q u + 1 ≡ count_by p u
+count_less p q n [] d a passed fails others = absurd a
+count_less p q n (m ∷ u) d a passed fails others = go a (count_less p q n u d.1)
+  where
+    first : count_by p (m ∷ u) ≡ cond {A = ℕ} (p m) 1 0 + count_by p u
+    first = count_cons (λ (x : Name). cond {A = ℕ} (p x) 1 0) m u
+
+    second : count_by q (m ∷ u) ≡ cond {A = ℕ} (q m) 1 0 + count_by q u
+    second = count_cons (λ (x : Name). cond {A = ℕ} (q x) 1 0) m u
+
+    differs : (x y : Name) → (x ≡ y → ⊥) → same_name x y ≡ false
+    differs x y ne = test (same_name x y) refl
+      where
+        test : (b : Bool) → same_name x y ≡ b → b ≡ false
+        test true e = absurd (ne (same_name_true x y e))
+        test false e = refl
+
+    go : (m ≡ n) ⊎ Among u n → (Among u n → p n ≡ true → q n ≡ false → ((x : Name) → same_name n x ≡ false → p x ≡ q x) → count_by q u + 1 ≡ count_by p u) → count_by q (m ∷ u) + 1 ≡ count_by p (m ∷ u)
+    go (inl e) rest =
+        let tail = count_alike p q u (λ x b. others x (differs n x (λ same. d.0 (subst (λ (y : Name). Among u y) (sym same ∙ sym e) b)))) in
+        let one : cond {A = ℕ} (p m) 1 0 ≡ 1 = ap (λ (b : Bool). cond {A = ℕ} b 1 0) (ap p e ∙ passed) in
+        let none : cond {A = ℕ} (q m) 1 0 ≡ 0 = ap (λ (b : Bool). cond {A = ℕ} b 1 0) (ap q e ∙ fails) in
+        omega (arith, first, second)
+    go (inr b) rest =
+        let tail = rest b passed fails others in
+        let same : cond {A = ℕ} (p m) 1 0 ≡ cond {A = ℕ} (q m) 1 0 = ap (λ (x : Bool). cond {A = ℕ} x 1 0) (others m (differs n m (λ e. d.0 (subst (λ (y : Name). Among u y) e b)))) in
+        omega (arith, first, second)
+
+-- none of the tests fails exactly where all pass
+none_count : (q : Name → Bool) (u : List Name) → count_by (λ n. not (q n)) u ≡ 0 → list_all q u ≡ true
+none_count q [] e = refl
+none_count q (n ∷ u) e = go (q n) refl (none_count q u)
+  where
+    spread : count_by (λ m. not (q m)) (n ∷ u) ≡ cond {A = ℕ} (not (q n)) 1 0 + count_by (λ m. not (q m)) u
+    spread = count_cons (λ (m : Name). cond {A = ℕ} (not (q m)) 1 0) n u
+
+    go : (b : Bool) → q n ≡ b → (count_by (λ m. not (q m)) u ≡ 0 → list_all q u ≡ true) → (q n && list_all q u) ≡ true
+    go true is rest = rw is (rest (omega (arith, spread, e)))
+    go false is rest = absurd (let one : cond {A = ℕ} (not (q n)) 1 0 ≡ 1 = ap (λ (b : Bool). cond {A = ℕ} (not b) 1 0) is in omega (arith, spread, e))
+
+some_count : (q : Name → Bool) (u : List Name) → 0 < count_by (λ n. not (q n)) u → list_all q u ≡ false
+some_count q [] e = absurd (omega (arith, e))
+some_count q (n ∷ u) e = go (q n) refl (some_count q u)
+  where
+    spread : count_by (λ m. not (q m)) (n ∷ u) ≡ cond {A = ℕ} (not (q n)) 1 0 + count_by (λ m. not (q m)) u
+    spread = count_cons (λ (m : Name). cond {A = ℕ} (not (q m)) 1 0) n u
+
+    go : (b : Bool) → q n ≡ b → (0 < count_by (λ m. not (q m)) u → list_all q u ≡ false) → (q n && list_all q u) ≡ false
+    go true is rest = let none : cond {A = ℕ} (not (q n)) 1 0 ≡ 0 = ap (λ (b : Bool). cond {A = ℕ} (not b) 1 0) is in rw is (rest (omega (arith, spread, e)))
+    go false is rest = rw is refl
+
+-- a removal is found by its name
+find_named : (rs : List Removal) (r : Removal) → Distinct (map (λ x. x.name) rs) → Among rs r → find (λ x. same_name r.name x.name) rs ≡ Some r
+find_named [] r d a = absurd a
+find_named (x ∷ rs) r d a = go (same_name r.name x.name) refl a (find_named rs r d.1)
+  where
+    go : (b : Bool) → same_name r.name x.name ≡ b → (x ≡ r) ⊎ Among rs r → (Among rs r → find (λ y. same_name r.name y.name) rs ≡ Some r) → cond b (Some x) (find (λ y. same_name r.name y.name) rs) ≡ Some r
+    go true e (inl same) rest = ap (λ (y : Removal). Some y) same
+    go true e (inr b) rest = absurd (d.0 (subst (λ (n : Name). Among (map (λ y. y.name) rs) n) (same_name_true r.name x.name e) (name_among rs r b)))
+    go false e (inl same) rest = absurd (let yes : same_name r.name x.name ≡ true = ap (λ (y : Removal). same_name r.name y.name) same ∙ same_name_refl r.name in cc)
+    go false e (inr b) rest = rest b
+
+next_poll_is : (n : ℕ) → next_poll n ≡ min (n + 1) 65535
+next_poll_is n = grind (arith, nat_tests)
+
+-- ---- a new round
+
+-- The queue after the turn. Where its next place is its end, nothing is kept.
+pub record Turned (z : Sizes) (names : List (Option Name)) (order : List ℕ) (ring : List Name) (end from kept : ℕ) : Type 0 where
+  pub places : OrderShows z order end end from kept
+  pub named : AreNamed names (ring_of order end from kept) ring
+  pub empty : from ≡ end → kept ≡ 0
+
+turns : {z : Sizes} {names : List (Option Name)} {order : List ℕ} {ring : List Name} (listed begun from kept : ℕ) → OrderShows z order listed begun from kept → listed ≤ begun → AreNamed names (ring_of order begun from kept) ring
+    → Turned z names order ring (turned begun from kept).0 (turned begun from kept).1 (turned begun from kept).2
+turns {z} {names} {order} {ring} listed begun from kept o all h = go (from == begun) refl
+  where
+    go : (b : Bool) → (from == begun) ≡ b → Turned z names order ring (cond {A = ℕ × ℕ × ℕ} b (kept, 0, 0) (begun, from, kept)).0 (cond {A = ℕ × ℕ × ℕ} b (kept, 0, 0) (begun, from, kept)).1 (cond {A = ℕ × ℕ × ℕ} b (kept, 0, 0) (begun, from, kept)).2
+    go true e =
+        let same = eqb-true from begun e in
+        let past : drop from (take begun order) ≡ [] = drop_all from (take begun order) (omega (arith, length-take-le begun order (omega (arith, o.len, o.listed_few, o.begun_few)))) in
+        record {
+          places = record { len = o.len; listed_few = omega (arith, o.kept_few, o.from_few, o.begun_few, o.listed_few); begun_few = omega arith; from_few = omega arith; kept_few = omega arith; early = λ e. refl };
+          named = subst (λ (at : List ℕ). AreNamed names at ring) (ap (λ (at : List ℕ). at ++ take kept order) past ∙ sym (append-nil (take kept order))) h;
+          empty = λ e. refl;
+        }
+    go false e = record {
+      places = record { len = o.len; listed_few = omega (arith, o.begun_few, o.listed_few); begun_few = omega arith; from_few = o.from_few; kept_few = o.kept_few; early = λ e. absurd (omega arith) };
+      named = h;
+      empty = λ same. absurd (eqb-false from begun e same);
+    }
+
+module _ (z : Sizes) (p : Parts) (s : State) (k : Shows z p (calm s)) (idle : p.phase ≡ Idle) where
+  abbrev w : World
+  w = s.world
+
+  abbrev w0 : World
+  w0 = gone_world w.removals w.last_removed w.found
+
+  abbrev q : QueueShows p.names p.order p.listed p.begun p.from p.kept p.done w.removals w.last_removed w.found s.collector.asked
+  q = k.queue idle
+
+  at_idle : w.phase ≡ Idle
+  at_idle = sym k.phase ∙ idle
+
+  gathered : w.phase ≢ Gathering
+  gathered e = let a = at_idle in cc
+
+  removed_idle : RemovedShow z p.names p.lives p.polls p.left p.swept Idle w.removals w.found w.swept
+  removed_idle = subst (λ (phase : Phase). RemovedShow z p.names p.lives p.polls p.left p.swept phase w.removals w.found w.swept) at_idle k.removed
+
+  removed_back : {ls : List Life} {ps : List ℕ} {rs : List Removal} → RemovedShow z p.names ls ps p.left p.swept Idle rs w.found w.swept → RemovedShow z p.names ls ps p.left p.swept w.phase rs w.found w.swept
+  removed_back {ls} {ps} {rs} r = subst (λ (phase : Phase). RemovedShow z p.names ls ps p.left p.swept phase rs w.found w.swept) (sym at_idle) r
+
+  removals_different : all_different (map (λ r. r.name) w.removals) ≡ true
+  removals_different = distinct_different _ k.removed.distinct
+
+  -- ---- an object is begun
+
+  module _ (some : p.begun < p.listed) where
+    abbrev x : ℕ
+    x = get_or p.order p.begun 0
+
+    listed_len : length (take p.listed p.order) ≡ p.listed
+    listed_len = length-take-le p.listed p.order (omega (arith, k.order.listed_few, k.order.len))
+
+    todo_split : todo_of p.order p.listed p.begun ≡ x ∷ todo_of p.order p.listed (p.begun + 1)
+    todo_split = drop_more (take p.listed p.order) p.begun 0 (omega (arith, listed_len))
+        ∙ ap (λ (i : ℕ). i ∷ drop (p.begun + 1) (take p.listed p.order)) (get_or-take p.listed p.order p.begun 0 some)
+
+    pub first : (n : Name) × (rest : List Name) × (q.todo ≡ n ∷ rest) × (name_at p.names x ≡ Some n) × AreNamed p.names (todo_of p.order p.listed (p.begun + 1)) rest
+    first = named_first p.names x _ q.todo (subst (λ (at : List ℕ). AreNamed p.names at q.todo) todo_split q.todo_at)
+
+    abbrev n : Name
+    n = first.0
+
+    queue' : IsQueue w0 s.collector.asked (n ∷ first.1) q.ring q.ready
+    queue' = subst (λ (todo : List Name). IsQueue w0 s.collector.asked todo q.ring q.ready) first.2 q.queue
+
+    at_removed : is_at w0 AtRemoved n ≡ true
+    at_removed = among_filter_test (is_at w0 AtRemoved) (in_order w0) n (subst (λ (ns : List Name). Among ns n) queue'.todo_is (inl refl))
+
+    gone_x : is_gone (life_at p.lives x) ≡ true
+    gone_x = gone_index k.names k.removed x n first.3 (in_removals_at w0 AtRemoved n at_removed)
+
+    abbrev ls : List Life
+    ls = set p.lives x Begun
+
+    abbrev rs : List Removal
+    rs = changed n (λ r. record r { stage = AtBegun }) w.removals
+
+    same : SameLives p.lives ls
+    same = lives_set p.lives x Begun gone_x refl
+
+    removed' : RemovedShow z p.names ls p.polls p.left p.swept Idle rs w.found w.swept
+    removed' = removed_changed n (λ r. record r { stage = AtBegun }) (λ r. refl) x k.names removed_idle first.3 same refl (λ i ne. (get_or-set_other p.lives x i Begun Free ne, refl))
+        (λ t. record { name = n; stage = stage_of (sym (get_or-set_same p.lives x Begun Free (gone_below p.lives x gone_x)) t); polls = get_or p.polls x 0 })
+
+    same_end : (m : Name) → at_end rs m ≡ at_end w.removals m
+    same_end m = go (same_name n m) refl
+      where
+        here : at_end rs n ≡ at_end w.removals n
+        here = is_at-at_stage_same w0 n AtBegun AtFinished ∙ sym (one_stage w0 n AtRemoved AtFinished removals_different at_removed refl)
+
+        go : (b : Bool) → same_name n m ≡ b → at_end rs m ≡ at_end w.removals m
+        go true e = subst (λ (y : Name). at_end rs y ≡ at_end w.removals y) (same_name_true n m e) here
+        go false e = is_at-at_stage_other w0 n AtBegun AtFinished m e
+
+    gone' : GoneShow z p.names p.firsts p.sizes p.next p.waiting ls rs w.last_removed
+    gone' = gone_changed same k.gone refl (there_changed n (λ r. record r { stage = AtBegun }) (λ r. refl) w.removals)
+        (λ head u t. t.waits ∙ count_alike _ _ u (λ m a. ap not (sym (same_end m))))
+
+    none_from : p.from ≡ 0
+    none_from = k.order.early some
+
+    none_kept : p.kept ≡ 0
+    none_kept = omega (arith, none_from, k.order.kept_few)
+
+    order' : OrderShows z p.order p.listed (p.begun + 1) p.from p.kept
+    order' = record { len = k.order.len; listed_few = k.order.listed_few; begun_few = omega arith; from_few = omega (arith, k.order.from_few); kept_few = k.order.kept_few; early = λ e. none_from }
+
+    ring_more : ring_of p.order (p.begun + 1) p.from p.kept ≡ ring_of p.order p.begun p.from p.kept ++ x ∷ []
+    ring_more = (λ t. ring_of p.order (p.begun + 1) (none_from t) (none_kept t)) ∙ plain ∙ (λ t. ring_of p.order p.begun (sym none_from t) (sym none_kept t) ++ x ∷ [])
+      where
+        plain : take (p.begun + 1) p.order ++ [] ≡ (take p.begun p.order ++ []) ++ x ∷ []
+        plain = append-nil (take (p.begun + 1) p.order) ∙ take_more p.order p.begun 0 (omega (arith, k.order.len, k.order.listed_few))
+            ∙ ap (λ (at : List ℕ). at ++ x ∷ []) (sym (append-nil (take p.begun p.order)))
+
+    pub begin_named : name_at p.names x ≡ Some n
+    begin_named = first.3
+
+    pub begin_gone : is_gone (life_at p.lives x) ≡ true
+    begin_gone = gone_x
+
+    pub begin_name : Name
+    begin_name = n
+
+    pub begin_may : MayBy z s Collector (act.Begun n)
+    begin_may = record { finishes = k.none_agreed; may = record { gathered = gathered; next = (queue_begin queue').0 } }
+
+    pub begin_shows : Shows z (record p { lives = ls; begun = p.begun + 1 }) (calm (next s (record { pass = Collector; act = act.Begun n })))
+    begin_shows = purged_shows k idle same (removed_back removed') gone' (λ lane. count_changed n (λ r. record r { stage = AtBegun }) (λ r. refl) lane w.removals) order'
+        (record {
+          todo = first.1;
+          ring = q.ring ++ n ∷ [];
+          ready = q.ready;
+          todo_at = first.4;
+          ring_at = subst (λ (at : List ℕ). AreNamed p.names at (q.ring ++ n ∷ [])) (sym ring_more) (named_append p.names _ _ _ _ q.ring_at (first.3, tt));
+          ready_at = q.ready_at;
+          queue = (queue_begin queue').1;
+        }) refl refl
+
+  -- ---- an object is asked
+
+  module _ (all : p.listed ≤ p.begun) (none : p.done ≡ None) (more : 0 < p.left) where
+    abbrev end : ℕ
+    end = (turned p.begun p.from p.kept).0
+
+    abbrev from : ℕ
+    from = (turned p.begun p.from p.kept).1
+
+    abbrev kept : ℕ
+    kept = (turned p.begun p.from p.kept).2
+
+    turn : Turned z p.names p.order q.ring end from kept
+    turn = turns p.listed p.begun p.from p.kept k.order all q.ring_at
+
+    no_todo : q.todo ≡ []
+    no_todo = go q.todo (subst (λ (at : List ℕ). AreNamed p.names at q.todo) past q.todo_at)
+      where
+        past : todo_of p.order p.listed p.begun ≡ []
+        past = drop_all p.begun (take p.listed p.order) (omega (arith, length-take-le p.listed p.order (omega (arith, k.order.len, k.order.listed_few))))
+
+        go : (todo : List Name) → AreNamed p.names [] todo → todo ≡ []
+        go [] h = refl
+        go (m ∷ todo) h = absurd h
+
+    no_ready : q.ready ≡ None
+    no_ready = go q.ready (subst (λ (done : Option ℕ). ReadyAt p.names done q.ready) none q.ready_at)
+      where
+        go : (ready : Option Name) → ReadyAt p.names None ready → ready ≡ None
+        go None h = refl
+        go (Some m) h = absurd h
+
+    asks : IsQueue w0 s.collector.asked [] q.ring None
+    asks = subst₂ (λ (todo : List Name) (ready : Option Name). IsQueue w0 s.collector.asked todo q.ring ready) no_todo no_ready q.queue
+
+    some_left : w.removals ≢ []
+    some_left e = let len : length w.removals ≡ 0 = ap (λ (xs : List Removal). length xs) e in absurd (omega (arith, removed_idle.left_is, more))
+
+    some_ring : q.ring ≢ []
+    some_ring = queue_least asks some_left
+
+    before_end : from < end
+    before_end = dite (ℕ_discrete from end)
+        (λ (e : from ≡ end).
+        let past : drop from (take end p.order) ≡ [] = drop_all from (take end p.order) (omega (arith, length-take-le end p.order (omega (arith, turn.places.len, turn.places.listed_few)))) in
+        let nothing : ring_of p.order end from kept ≡ [] = (λ t. past t ++ take (turn.empty e t) p.order) in
+        absurd (some_ring (go q.ring (subst (λ (at : List ℕ). AreNamed p.names at q.ring) nothing turn.named))))
+        (λ (ne : from ≢ end). omega (arith, turn.places.from_few))
+      where
+        go : (ring : List Name) → AreNamed p.names [] ring → ring ≡ []
+        go [] h = refl
+        go (m ∷ ring) h = absurd h
+
+    abbrev y : ℕ
+    y = get_or p.order from 0
+
+    end_len : length (take end p.order) ≡ end
+    end_len = length-take-le end p.order (omega (arith, turn.places.len, turn.places.listed_few))
+
+    ring_split : ring_of p.order end from kept ≡ y ∷ ring_of p.order end (from + 1) kept
+    ring_split = ap (λ (at : List ℕ). at ++ take kept p.order)
+        (drop_more (take end p.order) from 0 (omega (arith, end_len, before_end)) ∙ ap (λ (i : ℕ). i ∷ drop (from + 1) (take end p.order)) (get_or-take end p.order from 0 before_end))
+
+    pub asked_first : (m : Name) × (rest : List Name) × (q.ring ≡ m ∷ rest) × (name_at p.names y ≡ Some m) × AreNamed p.names (ring_of p.order end (from + 1) kept) rest
+    asked_first = named_first p.names y _ q.ring (subst (λ (at : List ℕ). AreNamed p.names at q.ring) ring_split turn.named)
+
+    abbrev m : Name
+    m = asked_first.0
+
+    asks' : IsQueue w0 s.collector.asked [] (m ∷ asked_first.1) None
+    asks' = subst (λ (ring : List Name). IsQueue w0 s.collector.asked [] ring None) asked_first.2 asks
+
+    at_begun : is_at w0 AtBegun m ≡ true
+    at_begun = among_filter_test (is_at w0 AtBegun) _ m (subst (λ (ns : List Name). Among ns m) asks'.ring_is (inl refl))
+
+    there : still_there w.removals m ≡ true
+    there = in_removals_at w0 AtBegun m at_begun
+
+    pub asked_gone : is_gone (life_at p.lives y) ≡ true
+    asked_gone = gone_index k.names k.removed y m asked_first.3 there
+
+    abbrev poll : ℕ
+    poll = next_poll (get_or p.polls y 0)
+
+    polls_known : polls_of w0 m ≡ get_or p.polls y 0
+    polls_known = ap (λ (o : Option Removal). option_map_or (λ (r : Removal). r.polls) o 0)
+        (find_named w.removals (removal_at p.lives p.polls y m) k.removed.distinct (k.removed.removed y m asked_first.3 asked_gone))
+
+    asked_may : (answer : Bool) → MayBy z s Collector (act.Asked m poll answer)
+    asked_may answer = record {
+      finishes = k.none_agreed;
+      may = record {
+        gathered = gathered;
+        begun = queue_begun asks';
+        waiting = sym asks'.ready_is.first;
+        next = queue_ask asks';
+        number = next_poll_is (get_or p.polls y 0) ∙ ap (λ (n : ℕ). min (n + 1) 65535) (sym polls_known);
+      };
+    }
+
+    abbrev ps : List ℕ
+    ps = set p.polls y poll
+
+    abbrev polled_rs : List Removal
+    polled_rs = changed m (λ r. record r { polls = poll }) w.removals
+
+    y_below : y < item_count z
+    y_below = omega (arith, gone_below p.lives y asked_gone, k.units.lives_len)
+
+    removed_polled : RemovedShow z p.names p.lives ps p.left p.swept Idle polled_rs w.found w.swept
+    removed_polled = removed_changed m (λ r. record r { polls = poll }) (λ r. refl) y k.names removed_idle asked_first.3 (lives_same p.lives) (length-set p.polls y poll)
+        (λ i ne. (refl, get_or-set_other p.polls y i poll 0 ne))
+        (λ t. record { name = m; stage = stage_of (life_at p.lives y); polls = sym (get_or-set_same p.polls y poll 0 (omega (arith, y_below, k.removed.polls_len))) t })
+
+    same_removals : (lane : ℕ) → count_by (λ r. r.name.lane == lane) polled_rs ≡ count_by (λ r. r.name.lane == lane) w.removals
+    same_removals lane = count_changed m (λ r. record r { polls = poll }) (λ r. refl) lane w.removals
+
+    -- ---- it refuses
+
+    abbrev order_refused : List ℕ
+    order_refused = set p.order kept y
+
+    pub kept_below : kept < length p.order
+    kept_below = omega (arith, turn.places.kept_few, before_end, turn.places.listed_few, turn.places.len)
+
+    pub from_below : from < length p.order
+    from_below = omega (arith, before_end, turn.places.listed_few, turn.places.len)
+
+    ring_refused : ring_of order_refused end (from + 1) (kept + 1) ≡ ring_of p.order end (from + 1) kept ++ y ∷ []
+    ring_refused =
+        let sum : end ≡ (from + 1) + (end - (from + 1)) = omega (arith, before_end) in
+        let rest : drop (from + 1) (take end order_refused) ≡ drop (from + 1) (take end p.order) =
+        ap (λ (n : ℕ). drop (from + 1) (take n order_refused)) sum ∙ drop-take (from + 1) (end - (from + 1)) order_refused
+        ∙ ap (take (end - (from + 1))) (drop-set-lt (from + 1) p.order kept y (omega (arith, turn.places.kept_few)))
+        ∙ sym (drop-take (from + 1) (end - (from + 1)) p.order) ∙ ap (λ (n : ℕ). drop (from + 1) (take n p.order)) (sym sum) in
+        (λ t. rest t ++ take_more_set p.order kept y kept_below t) ∙ sym (append_assoc (drop (from + 1) (take end p.order)) (take kept p.order) (y ∷ []))
+
+    none_waits : (order : List ℕ) → length order ≡ item_count z → AreNamed p.names (todo_of order end end) []
+    none_waits order len = subst (λ (at : List ℕ). AreNamed p.names at []) (sym (drop_all end (take end order) (omega (arith, length-take-le end order (omega (arith, len, turn.places.listed_few)))))) tt
+
+    pub refused_legal : LegalFrom z s (by Collector (asked_acts m poll false))
+    refused_legal = (asked_may false, tt)
+
+    pub refused_shows : Shows z (record p { polls = ps; order = order_refused; listed = end; begun = end; from = from + 1; kept = kept + 1 }) (calm (run s (by Collector (asked_acts m poll false))))
+    refused_shows = purged_shows k idle (lives_same p.lives) (removed_back removed_polled)
+        (gone_changed (lives_same p.lives) k.gone refl (there_changed m (λ r. record r { polls = poll }) (λ r. refl) w.removals)
+        (λ head u t. t.waits ∙ count_alike _ _ u (λ n a. ap not (sym (is_at-polled w0 m poll AtFinished n)))))
+        same_removals
+        (record {
+          len = length-set p.order kept y ∙ turn.places.len;
+          listed_few = turn.places.listed_few;
+          begun_few = omega arith;
+          from_few = omega (arith, before_end);
+          kept_few = omega (arith, turn.places.kept_few);
+          early = λ e. absurd (omega (arith, e));
+        })
+        (record {
+          todo = [];
+          ring = asked_first.1 ++ m ∷ [];
+          ready = None;
+          todo_at = none_waits order_refused (length-set p.order kept y ∙ turn.places.len);
+          ring_at = subst (λ (at : List ℕ). AreNamed p.names at (asked_first.1 ++ m ∷ [])) (sym ring_refused) (named_append p.names _ _ _ _ asked_first.4 (asked_first.3, tt));
+          ready_at = subst (λ (done : Option ℕ). ReadyAt p.names done None) (sym none) tt;
+          queue = queue_refused asks' poll;
+        }) refl refl
+
+    -- ---- it agrees
+
+    abbrev head : ℕ
+    head = first_at p.firsts y
+
+    lies : (u : List Name) × LiesAt p.names p.firsts p.sizes p.next p.waiting p.lives w.removals w.last_removed head u
+    lies = k.gone.each y asked_gone
+
+    abbrev unit : List Name
+    unit = lies.0
+
+    has_m : has unit m ≡ true
+    has_m = lies.1.whole y m (record { name = asked_first.3; life = asked_gone }) refl
+
+    ordered : Among (destruction_order w0) unit
+    ordered =
+        let v = among_members (destruction_order w0) m (has_among (in_order w0) m (asks'.order.covered m there)) in
+        let placed = in_order_of w.last_removed w.found v.0 v.1 in
+        let same = same_unit w.last_removed v.0 unit m k.gone.distinct placed.0 lies.1.among (has_among v.0 m v.2) (has_among unit m has_m) in
+        subst (λ (x : List Name). Among (destruction_order w0) x) same v.1
+
+    unfinished : at_end w.removals m ≡ false
+    unfinished = one_stage w0 m AtBegun AtFinished removals_different at_begun refl
+
+    abbrev agreed_rs : List Removal
+    agreed_rs = changed m (λ r. record r { stage = AtFinished }) polled_rs
+
+    now_finished : at_end agreed_rs m ≡ true
+    now_finished = is_at-at_stage_same (polled w0 m poll) m AtFinished AtFinished ∙ there_changed m (λ r. record r { polls = poll }) (λ r. refl) w.removals m ∙ there
+
+    as_before : (n : Name) → same_name m n ≡ false → at_end agreed_rs n ≡ at_end w.removals n
+    as_before n e = is_at-at_stage_other (polled w0 m poll) m AtFinished AtFinished n e ∙ is_at-polled w0 m poll AtFinished n
+
+    distinct_unit : (units : List (List Name)) (u : List Name) → Distinct (members units) → Among units u → Distinct u
+    distinct_unit [] u d a = absurd a
+    distinct_unit (v ∷ units) u d (inl e) = subst (λ (x : List Name). Distinct x) e (distinct_left v (members units) d)
+    distinct_unit (v ∷ units) u d (inr a) = distinct_unit units u (distinct_right v (members units) d) a
+
+    one_less : (u : List Name) → Among w.last_removed u → has u m ≡ true → count_by (λ n. not (at_end agreed_rs n)) u + 1 ≡ count_by (λ n. not (at_end w.removals n)) u
+    one_less u a e = count_less (λ n. not (at_end w.removals n)) (λ n. not (at_end agreed_rs n)) m u (distinct_unit w.last_removed u k.gone.distinct a) (has_among u m e)
+        (ap not unfinished) (ap not now_finished) (λ n o. ap not (sym (as_before n o)))
+
+    abbrev waits : ℕ
+    waits = get_or p.waiting head 0
+
+    pub some_wait : 0 < waits
+    some_wait = omega (arith, lies.1.waits, one_less unit lies.1.among has_m)
+
+    pub head_below : head < item_count z
+    head_below = k.units.in_range y
+
+    abbrev ws : List ℕ
+    ws = set p.waiting head (waits - 1)
+
+    abbrev agreed_ls : List Life
+    agreed_ls = set p.lives y Finished
+
+    lives_agreed : SameLives p.lives agreed_ls
+    lives_agreed = lives_set p.lives y Finished asked_gone refl
+
+    gone_agreed : GoneShow z p.names p.firsts p.sizes p.next ws agreed_ls agreed_rs w.last_removed
+    gone_agreed = gone_changed lives_agreed k.gone (length-set p.waiting head (waits - 1))
+        (λ n. there_changed m (λ r. record r { stage = AtFinished }) (λ r. refl) polled_rs n ∙ there_changed m (λ r. record r { polls = poll }) (λ r. refl) w.removals n) count
+      where
+        count : (at : ℕ) (u : List Name) → LiesAt p.names p.firsts p.sizes p.next p.waiting p.lives w.removals w.last_removed at u → get_or ws at 0 ≡ count_by (λ n. not (at_end agreed_rs n)) u
+        count at u t = dite (ℕ_discrete at head)
+            (λ (e : at ≡ head).
+            let has_it = t.whole y m (record { name = asked_first.3; life = asked_gone }) (sym e) in
+            let same : get_or p.waiting at 0 ≡ waits = ap (λ (i : ℕ). get_or p.waiting i 0) e in
+            let now : get_or ws at 0 ≡ waits - 1 = ap (λ (i : ℕ). get_or ws i 0) e ∙ get_or-set_same p.waiting head (waits - 1) 0 (omega (arith, head_below, k.gone.waiting_len)) in
+            omega (arith, one_less u t.among has_it, t.waits))
+            (λ (ne : at ≢ head).
+            get_or-set_other p.waiting head at (waits - 1) 0 ne ∙ t.waits ∙ count_alike _ _ u (λ n a. ap not (sym (as_before n (apart n a ne)))))
+          where
+            apart : (n : Name) → Among u n → at ≢ head → same_name m n ≡ false
+            apart n a ne = test (same_name m n) refl
+              where
+                test : (b : Bool) → same_name m n ≡ b → b ≡ false
+                test false e = refl
+                test true e =
+                    let j = t.inside n (among_has u n a) in
+                    let here = k.names.alone j.0 y m (j.1.name ∙ ap (λ (x : Name). Some x) (sym (same_name_true m n e))) asked_first.3 in
+                    absurd (ne (sym j.2 ∙ ap (first_at p.firsts) here))
+
+    removed_agreed : RemovedShow z p.names agreed_ls ps p.left p.swept Idle agreed_rs w.found w.swept
+    removed_agreed = removed_changed m (λ r. record r { stage = AtFinished }) (λ r. refl) y k.names removed_polled asked_first.3 lives_agreed refl
+        (λ i ne. (get_or-set_other p.lives y i Finished Free ne, refl))
+        (λ t. record { name = m; stage = stage_of (sym (get_or-set_same p.lives y Finished Free (gone_below p.lives y asked_gone)) t); polls = get_or ps y 0 })
+
+    abbrev next_ready : Option Name
+    next_ready = if list_all (at_end agreed_rs) unit then first_member unit else None
+
+    ready_now : ReadyAt p.names (finished_unit head (waits - 1)) next_ready
+    ready_now = go (waits - 1) (omega (arith, lies.1.waits, one_less unit lies.1.among has_m))
+      where
+        first : (u : List Name) → has u m ≡ true → AreLinked p.names p.next head u → ReadyAt p.names (Some head) (first_member u)
+        first [] e l = absurd cc
+        first (n ∷ u) e l = l.0
+
+        go : (c : ℕ) → c ≡ count_by (λ n. not (at_end agreed_rs n)) unit → ReadyAt p.names (finished_unit head c) next_ready
+        go zero e = subst (λ (b : Bool). ReadyAt p.names (Some head) (if b then first_member unit else None)) (sym (none_count (at_end agreed_rs) unit (sym e))) (first unit has_m lies.1.linked)
+        go (suc c) e = subst (λ (b : Bool). ReadyAt p.names None (if b then first_member unit else None)) (sym (some_count (at_end agreed_rs) unit (omega (arith, e)))) tt
+
+    pub agreed_legal : LegalFrom z s (by Collector (asked_acts m poll true))
+    agreed_legal = (asked_may true, (record { finishes = refl; may = gathered }, tt))
+
+    pub agreed_shows : Shows z (record p { lives = agreed_ls; polls = ps; waiting = ws; listed = end; begun = end; from = from + 1; kept = kept; done = finished_unit head (waits - 1) })
+        (calm (run s (by Collector (asked_acts m poll true))))
+    agreed_shows = purged_shows k idle lives_agreed (removed_back removed_agreed) gone_agreed
+        (λ lane. count_changed m (λ r. record r { stage = AtFinished }) (λ r. refl) lane polled_rs ∙ same_removals lane)
+        (record {
+          len = turn.places.len;
+          listed_few = turn.places.listed_few;
+          begun_few = omega arith;
+          from_few = omega (arith, before_end);
+          kept_few = omega (arith, turn.places.kept_few);
+          early = λ e. absurd (omega (arith, e));
+        })
+        (record {
+          todo = [];
+          ring = asked_first.1;
+          ready = next_ready;
+          todo_at = none_waits p.order turn.places.len;
+          ring_at = asked_first.4;
+          ready_at = ready_now;
+          queue = queue_agreed asks' poll unit ordered has_m;
+        }) refl refl

@@ -1,0 +1,584 @@
+-- The step of destruction that releases a unit.
+use Rattle.std.proofs.Common.{◌≡◌, ◌≢◌, ℕ, ◌+◌, ◌-◌, ◌*◌, ◌<◌, ◌≤◌, ◌^◌, ◌==◌, ◌||◌, ◌&&◌, ◌⊎◌, refl, sym, subst, ap, ◌∙◌, inl, inr, zero, suc, arith, Bool, cond, true, false, not, List, [], ◌∷◌, ◌++◌, append-nil, length, map, filter, find, take, drop, get_or, count_by, Option, Some, None, option_and_then}
+use Rattle.std.specs.List.{list_any, list_all}
+use Rattle.std.proofs.lemmas.Bool.{and_from}
+use Rattle.std.proofs.lemmas.List.{length-take-le, length-map, drop_all}
+use Rattle.std.proofs.lemmas.List.Sums.{length-filter}
+use Rattle.std.proofs.lemmas.List.Filters.{sum_by-filter_both}
+use Rattle.world_model.specs.Sizes.{Sizes, item_count}
+use Rattle.world_model.specs.NameLists.{same_name, has, members, begins_with, first_member, all_different}
+use Rattle.world_model.specs.World.{World, Removal, Begun as AtBegun, Finished as AtFinished, is_at, destruction_order}
+use Rattle.world_model.specs.State.{State, Frame}
+use Rattle.world_model.specs.Next.{next, released}
+use Rattle.world_model.specs.Histories.{MayBy}
+use Rattle.world_model.proofs.ListFacts.{Among, among_filter, among_filter_test, filter_among}
+use Rattle.world_model.proofs.NameFacts.{same_name_true, same_name_refl}
+use Rattle.world_model.proofs.Rounds.{in_removals_at, one_stage, is_at-released}
+use Rattle.world_model.proofs.Queues.{IsQueue, queue_begun, queue_release}
+use Rattle.heap_plain.specs.Types.{Name, Kind, Pass, Phase, Idle, Marking, Gathering, Collector, Act, Entry}
+use Rattle.heap_plain.specs.Types.act
+use Rattle.heap_plain.specs.declared.life.Life.{Life}
+use Rattle.heap_plain.specs.declared.life.Life.TheVariants.{Free, Live}
+use Rattle.heap_plain.specs.Parts.{Parts, name_at, life_at, first_at, next_at, is_gone, stage_of}
+use Rattle.heap_plain.specs.Listing.{chained, chain}
+use Rattle.heap_plain.specs.Purging.{Stocks, give_all, CanGive}
+use Rattle.heap_plain.specs.Sections.{Distinct, NamesShow, UnitsShow, StandsAt, LivesAt, AreLinked, RootsShow, rooted_at, HeldShow, RemovedShow, removal_at, removal_of, GoneAt, GoneShow, LiesAt, ClassesShow, QueueShows, AreNamed, ReadyAt, FreeShows, gone_world, todo_of, ring_of, at_end, still_there}
+use Rattle.heap_plain.specs.Plain.{Shows, calm}
+use Rattle.heap_plain.proofs.WorldFacts.{has_among, among_has, among_test, test_among, no_longer}
+use Rattle.heap_plain.proofs.Fillings.{Lists-same}
+use Rattle.heap_plain.proofs.Standing.{name_below, links_same}
+use Rattle.heap_plain.proofs.NewNames.{among_members, members_among}
+use Rattle.heap_plain.proofs.Listings.{linked_at}
+use Rattle.heap_plain.proofs.CommitSteps.{distinct_left, distinct_right, count_removals, names_back}
+use Rattle.heap_plain.proofs.SliceSteps.{count_cons}
+use Rattle.heap_plain.proofs.SweepSteps.{distinct_different, name_among, among_name}
+use Rattle.heap_plain.proofs.Gathering.{first_among, filter_one, same_unit, in_order_of}
+use Rattle.heap_plain.proofs.Emptying.{Emptying, Emptied, Empties, empties}
+use Rattle.heap_plain.proofs.Restaging.{gone_index}
+
+-- ---- lists
+
+found_some : {A : Type 0} (p : A → Bool) (xs : List A) (x : A) → find p xs ≡ Some x → Among xs x × (p x ≡ true)
+found_some p [] x e = absurd cc
+found_some p (y ∷ xs) x e = go (p y) refl (found_some p xs x) e
+  where
+    go : (b : Bool) → p y ≡ b → (find p xs ≡ Some x → Among xs x × (p x ≡ true)) → cond b (Some y) (find p xs) ≡ Some x → ((y ≡ x) ⊎ Among xs x) × (p x ≡ true)
+    go true is rest e = let same : y ≡ x = cc in (inl same, ap p (sym same) ∙ is)
+    go false is rest e = let found = rest e in (inr found.0, found.1)
+
+-- the unit that is to be released
+unit_ready : (p : List Name → Bool) (order : List (List Name)) (h : Name) → Some h ≡ option_and_then first_member (find p order) → (u : List Name) × Among order u × (p u ≡ true) × (begins_with h u ≡ true)
+unit_ready p order h e = go (find p order) refl e
+  where
+    begins : (u : List Name) → Some h ≡ first_member u → begins_with h u ≡ true
+    begins [] e = absurd cc
+    begins (n ∷ u) e = let same : h ≡ n = cc in ap (same_name h) (sym same) ∙ same_name_refl h
+
+    go : (r : Option (List Name)) → find p order ≡ r → Some h ≡ option_and_then first_member r → (u : List Name) × Among order u × (p u ≡ true) × (begins_with h u ≡ true)
+    go None f e = absurd cc
+    go (Some u) f e = let found = found_some p order u f in (u, found.0, found.1, begins u e)
+
+all_at : (p : Name → Bool) (u : List Name) (n : Name) → list_all p u ≡ true → Among u n → p n ≡ true
+all_at p [] n h a = absurd a
+all_at p (m ∷ u) n h (inl e) = ap p (sym e) ∙ first (p m) (list_all p u) h
+  where
+    first : (a b : Bool) → (a && b) ≡ true → a ≡ true
+    first true b h = refl
+    first false b h = absurd cc
+all_at p (m ∷ u) n h (inr a) = all_at p u n (second (p m) (list_all p u) h) a
+  where
+    second : (a b : Bool) → (a && b) ≡ true → b ≡ true
+    second true b h = h
+    second false b h = absurd cc
+
+linked_first : (names : List (Option Name)) (links : List ℕ) (i : ℕ) (n : Name) (u : List Name) → AreLinked names links i u → begins_with n u ≡ true → name_at names i ≡ Some n
+linked_first names links i n [] l h = absurd cc
+linked_first names links i n (m ∷ u) l h = l.0 ∙ ap (λ (x : Name). Some x) (sym (same_name_true n m h))
+
+distinct_one : (units : List (List Name)) (u : List Name) → Distinct (members units) → Among units u → Distinct u
+distinct_one [] u d a = absurd a
+distinct_one (v ∷ units) u d (inl e) = subst (λ (x : List Name). Distinct x) e (distinct_left v (members units) d)
+distinct_one (v ∷ units) u d (inr a) = distinct_one units u (distinct_right v (members units) d) a
+
+-- what is left of the removed objects
+abbrev without_names : List Name → List Removal → List Removal
+without_names u rs = filter (λ r. not (has u r.name)) rs
+
+distinct_names : (q : Removal → Bool) (rs : List Removal) → Distinct (map (λ r. r.name) rs) → Distinct (map (λ r. r.name) (filter q rs))
+distinct_names q [] d = tt
+distinct_names q (r ∷ rs) d = go (q r) (distinct_names q rs d.1)
+  where
+    go : (b : Bool) → Distinct (map (λ s. s.name) (filter q rs)) → Distinct (map (λ s. s.name) (cond b (r ∷ filter q rs) (filter q rs)))
+    go true rest = ((λ a. let s = among_name (filter q rs) r.name a in d.0 (subst (λ (n : Name). Among (map (λ s. s.name) rs) n) s.2 (name_among rs s.0 (among_filter q rs s.0 s.1)))), rest)
+    go false rest = rest
+
+distinct_kept : (f : Name → Bool) (xs : List Name) → Distinct xs → Distinct (filter f xs)
+distinct_kept f [] d = tt
+distinct_kept f (x ∷ xs) d = go (f x) (distinct_kept f xs d.1)
+  where
+    go : (b : Bool) → Distinct (filter f xs) → Distinct (cond b (x ∷ filter f xs) (filter f xs))
+    go true rest = ((λ a. d.0 (among_filter f xs x a)), rest)
+    go false rest = rest
+
+-- the same names in another order
+same_count : (f : Name → Bool) (xs ys : List Name) → Distinct xs → Distinct ys → ((n : Name) → Among xs n → Among ys n) → ((n : Name) → Among ys n → Among xs n) → count_by f xs ≡ count_by f ys
+same_count f xs ys d e there back =
+    let up = no_longer (filter f xs) (filter f ys) (distinct_kept f xs d) (λ n a. filter_among f ys n (there n (among_filter f xs n a)) (among_filter_test f xs n a)) in
+    let down = no_longer (filter f ys) (filter f xs) (distinct_kept f ys e) (λ n a. filter_among f xs n (back n (among_filter f ys n a)) (among_filter_test f ys n a)) in
+    omega (arith, length-filter f xs, length-filter f ys)
+
+count_names : (f : Name → Bool) (rs : List Removal) → count_by (λ r. f r.name) rs ≡ count_by f (map (λ r. r.name) rs)
+count_names f [] = refl
+count_names f (r ∷ rs) =
+    let rest = count_names f rs in
+    let a = count_cons (λ (s : Removal). cond {A = ℕ} (f s.name) 1 0) r rs in
+    let b = count_cons (λ (n : Name). cond {A = ℕ} (f n) 1 0) r.name (map (λ s. s.name) rs) in
+    omega arith
+
+-- the removed objects are those of the unit and the others
+split_count : (f : Name → Bool) (u : List Name) (rs : List Removal) → Distinct u → Distinct (map (λ r. r.name) rs) → ((n : Name) → Among u n → still_there rs n ≡ true)
+    → count_by (λ r. f r.name) rs ≡ count_by f u + count_by (λ r. f r.name) (without_names u rs)
+split_count f u rs d e there =
+    let both = sum_by-filter_both (λ (r : Removal). has u r.name) (λ r. not (has u r.name)) (λ r. refl) (λ r. cond {A = ℕ} (f r.name) 1 0) rs in
+    let named = count_names f (filter (λ r. has u r.name) rs) in
+    let same = same_count f (map (λ r. r.name) (filter (λ r. has u r.name) rs)) u (distinct_names (λ r. has u r.name) rs e) d
+    (λ n a. let r = among_name (filter (λ r. has u r.name) rs) n a in subst (λ (m : Name). Among u m) r.2 (has_among u r.0.name (among_filter_test (λ r. has u r.name) rs r.0 r.1)))
+    (λ n a.
+    let r = test_among (λ r. same_name n r.name) rs (there n a) in
+    let is = same_name_true n r.0.name r.2 in
+    subst (λ (m : Name). Among (map (λ s. s.name) (filter (λ s. has u s.name) rs)) m) (sym is)
+    (name_among (filter (λ s. has u s.name) rs) r.0 (filter_among (λ s. has u s.name) rs r.0 r.1 (among_has u r.0.name (subst (λ (m : Name). Among u m) is a))))) in
+    omega arith
+
+all_count : {A : Type 0} (xs : List A) → count_by (λ x. true) xs ≡ length xs
+all_count [] = refl
+all_count (x ∷ xs) = let rest = all_count xs in let c = count_cons (λ (y : _). 1) x xs in omega arith
+
+-- names that stay
+named_less : (names ns : List (Option Name)) (u : List Name) → ((i : ℕ) (n : Name) → name_at names i ≡ Some n → has u n ≡ false → name_at ns i ≡ Some n)
+    → (at : List ℕ) (of : List Name) → ((n : Name) → Among of n → has u n ≡ false) → AreNamed names at of → AreNamed ns at of
+named_less names ns u keep [] [] out h = tt
+named_less names ns u keep [] (n ∷ of) out h = absurd h
+named_less names ns u keep (i ∷ at) [] out h = absurd h
+named_less names ns u keep (i ∷ at) (n ∷ of) out h = (keep i n h.0 (out n (inl refl)), named_less names ns u keep at of (λ m a. out m (inr a)) h.1)
+
+count_alike : (p q : Name → Bool) (u : List Name) → ((n : Name) → Among u n → p n ≡ q n) → count_by p u ≡ count_by q u
+count_alike p q [] h = refl
+count_alike p q (n ∷ u) h =
+    let rest = count_alike p q u (λ m a. h m (inr a)) in
+    let a = count_cons (λ (m : Name). cond {A = ℕ} (p m) 1 0) n u in
+    let b = count_cons (λ (m : Name). cond {A = ℕ} (q m) 1 0) n u in
+    let same : cond {A = ℕ} (p n) 1 0 ≡ cond {A = ℕ} (q n) 1 0 = ap (λ (x : Bool). cond {A = ℕ} x 1 0) (h n (inl refl)) in
+    omega arith
+
+-- ---- a unit is released
+
+module _ (z : Sizes) (p : Parts) (s : State) (k : Shows z p (calm s)) (idle : p.phase ≡ Idle) (all : p.listed ≤ p.begun) (head : ℕ) (ready : p.done ≡ Some head) (few_items : item_count z < 2 ^ 32) where
+  abbrev w : World
+  w = s.world
+
+  abbrev w0 : World
+  w0 = gone_world w.removals w.last_removed w.found
+
+  abbrev q : QueueShows p.names p.order p.listed p.begun p.from p.kept p.done w.removals w.last_removed w.found s.collector.asked
+  q = k.queue idle
+
+  no_todo : q.todo ≡ []
+  no_todo = go q.todo (subst (λ (at : List ℕ). AreNamed p.names at q.todo) past q.todo_at)
+    where
+      past : todo_of p.order p.listed p.begun ≡ []
+      past = drop_all p.begun (take p.listed p.order) (omega (arith, all, length-take-le p.listed p.order (omega (arith, k.order.len, k.order.listed_few))))
+
+      go : (todo : List Name) → AreNamed p.names [] todo → todo ≡ []
+      go [] h = refl
+      go (m ∷ todo) h = absurd h
+
+  pub first : (n : Name) × (q.ready ≡ Some n) × (name_at p.names head ≡ Some n)
+  first = go q.ready (subst (λ (done : Option ℕ). ReadyAt p.names done q.ready) ready q.ready_at)
+    where
+      go : (r : Option Name) → ReadyAt p.names (Some head) r → (n : Name) × (r ≡ Some n) × (name_at p.names head ≡ Some n)
+      go None h = absurd h
+      go (Some n) h = (n, refl, h)
+
+  abbrev n : Name
+  n = first.0
+
+  waits : IsQueue w0 s.collector.asked [] q.ring (Some n)
+  waits = subst (λ (r : Option Name). IsQueue w0 s.collector.asked [] q.ring r) first.1 (subst (λ (todo : List Name). IsQueue w0 s.collector.asked todo q.ring q.ready) no_todo q.queue)
+
+  pub to_go : (u : List Name) × Among (destruction_order w0) u × (list_all (is_at w0 AtFinished) u ≡ true) × (begins_with n u ≡ true)
+  to_go = unit_ready (list_all (is_at w0 AtFinished)) (destruction_order w0) n waits.ready_is.first
+
+  abbrev u : List Name
+  u = to_go.0
+
+  finished : (m : Name) → Among u m → is_at w0 AtFinished m ≡ true
+  finished m a = all_at (is_at w0 AtFinished) u m to_go.2 a
+
+  there : (m : Name) → Among u m → still_there w.removals m ≡ true
+  there m a = in_removals_at w0 AtFinished m (finished m a)
+
+  in_units : Among w.last_removed u
+  in_units = (in_order_of w.last_removed w.found u to_go.1).0
+
+  first_in : Among u n
+  first_in = first_among n u to_go.3
+
+  lies : LiesAt p.names p.firsts p.sizes p.next p.waiting p.lives w.removals w.last_removed head u
+  lies =
+      let r = k.gone.all u n in_units (among_has u n first_in) (there n first_in) in
+      let same = k.names.alone r.0 head n (linked_first p.names p.next r.0 n u r.1.linked to_go.3) first.2 in
+      subst (λ (i : ℕ). LiesAt p.names p.firsts p.sizes p.next p.waiting p.lives w.removals w.last_removed i u) same r.1
+
+  distinct_u : Distinct u
+  distinct_u = distinct_one w.last_removed u k.gone.distinct in_units
+
+  pub size_is : get_or p.sizes head 0 ≡ length u
+  size_is = lies.size
+
+  -- what the release leaves of the removed objects
+  abbrev rs : List Removal
+  rs = (released w n).removals
+
+  names_are : members (filter (begins_with n) w.last_removed) ≡ u
+  names_are = ap members (filter_one n w.last_removed u k.gone.distinct in_units to_go.3) ∙ append-nil u
+
+  rest_is : without_names u w.removals ≡ rs
+  rest_is = ap (λ (us : List Name). without_names us w.removals) (sym names_are)
+
+  counted : (f : Name → Bool) → count_by (λ r. f r.name) w.removals ≡ count_by f u + count_by (λ r. f r.name) rs
+  counted f = split_count f u w.removals distinct_u k.removed.distinct there ∙ ap (λ (xs : List Removal). count_by f u + count_by (λ r. f r.name) xs) rest_is
+
+  at_idle : w.phase ≡ Idle
+  at_idle = sym k.phase ∙ idle
+
+  left_is : p.left ≡ length u + length rs
+  left_is =
+      let idle_left = subst (λ (phase : Phase). RemovedShow z p.names p.lives p.polls p.left p.swept phase w.removals w.found w.swept) at_idle k.removed in
+      let c = counted (λ m. true) in
+      omega (arith, idle_left.left_is, all_count w.removals, all_count u, all_count rs)
+
+  pub size_few : get_or p.sizes head 0 ≤ p.left
+  size_few = omega (arith, left_is, size_is)
+
+  -- ---- the vectors
+
+  abbrev before : Stocks
+  before = record { names = p.names; lives = p.lives; free = p.free; spare = p.spare }
+
+  emptying : Emptying z before p.next head u w.units rs
+  emptying = record {
+    free = free_split;
+    by_name = k.names.items;
+    by_life = k.units.lives_len;
+    linked = lies.linked;
+    distinct = distinct_u;
+    place = λ j m h. let t = k.names.places j m h in (t.lane, t.at);
+    alone = k.names.alone;
+    gone = λ j m h a. gone_index k.names k.removed j m h (there m (has_among u m a));
+  }
+    where
+      counts : (lane : ℕ) → count_by (λ r. r.name.lane == lane) (map removal_of u ++ rs) ≡ count_by (λ r. r.name.lane == lane) w.removals
+      counts lane = spread u ∙ ap (λ (c : ℕ). c + count_by (λ r. r.name.lane == lane) rs) (count_removals lane u) ∙ sym (counted (λ m. m.lane == lane))
+        where
+          spread : (v : List Name) → count_by (λ r. r.name.lane == lane) (map removal_of v ++ rs) ≡ count_by (λ r. r.name.lane == lane) (map removal_of v) + count_by (λ r. r.name.lane == lane) rs
+          spread [] = omega arith
+          spread (m ∷ v) =
+              let rest = spread v in
+              let a = count_cons (λ (r : Removal). cond {A = ℕ} (r.name.lane == lane) 1 0) (removal_of m) (map removal_of v ++ rs) in
+              let b = count_cons (λ (r : Removal). cond {A = ℕ} (r.name.lane == lane) 1 0) (removal_of m) (map removal_of v) in
+              omega arith
+
+      free_split : FreeShows z p.names p.lives p.free p.spare w.units (map removal_of u ++ rs)
+      free_split = record {
+        free_len = k.free.free_len;
+        spare_len = k.free.spare_len;
+        of_lane = k.free.of_lane;
+        unused = k.free.unused;
+        once = k.free.once;
+        all = k.free.all;
+        nameless = k.free.nameless;
+        count = λ lane b. omega (arith, k.free.count lane b, counts lane);
+      }
+
+  emptied : Empties z before p.next head u w.units rs
+  emptied = empties z before p.next head u w.units rs few_items emptying
+
+  pub release_can : (j : ℕ) → j < get_or p.sizes head 0 → CanGive z.quota (give_all z.quota before p.next head j) (chained p.next head j)
+  release_can j b = emptied.can j (omega (arith, size_is))
+
+  pub release_chain : (j : ℕ) → j < get_or p.sizes head 0 → chained p.next head j < length p.next
+  release_chain j b =
+      let m = linked_at p.names p.next head u lies.linked j (omega (arith, size_is)) in
+      omega (arith, name_below p.names (chained p.next head j) m.0 m.1, k.names.items, k.units.links_len)
+
+  abbrev t : Stocks
+  t = give_all z.quota before p.next head (get_or p.sizes head 0)
+
+  end : Emptied z before t u w.units rs
+  end = subst (λ (size : ℕ). Emptied z before (give_all z.quota before p.next head size) u w.units rs) (sym size_is) emptied.end
+
+  -- ---- the sections
+
+  same_has : (m : Name) → (has u m ≡ true) ⊎ (has u m ≡ false)
+  same_has m = go (has u m) refl
+    where
+      go : (b : Bool) → has u m ≡ b → (has u m ≡ true) ⊎ (has u m ≡ false)
+      go true e = inl e
+      go false e = inr e
+
+  clash : (m : Name) → has u m ≡ true → has u m ≡ false → ⊥
+  clash m a b = cc
+
+  -- a named index of another object stays as it was
+  stays : (i : ℕ) (m : Name) → name_at p.names i ≡ Some m → has u m ≡ false → (name_at t.names i ≡ Some m) × (life_at t.lives i ≡ life_at p.lives i)
+  stays i m h out =
+      let o = end.others i (λ x e. let same : x ≡ m = (let a = sym e ∙ h in cc) in ap (has u) same ∙ out) in
+      (o.0 ∙ h, o.1)
+
+  -- and an index without a name
+  unnamed : (i : ℕ) → name_at p.names i ≡ None → (name_at t.names i ≡ None) × (life_at t.lives i ≡ life_at p.lives i)
+  unnamed i h = let o = end.others i (λ x e. absurd (let a = h in cc)) in (o.0 ∙ h, o.1)
+
+  pub was_named : (i : ℕ) (m : Name) → name_at t.names i ≡ Some m → (name_at p.names i ≡ Some m) × (has u m ≡ false)
+  was_named i m h = go (name_at p.names i) refl
+    where
+      go : (o : Option Name) → name_at p.names i ≡ o → (name_at p.names i ≡ Some m) × (has u m ≡ false)
+      go None e = absurd (let none = (unnamed i e).0 in cc)
+      go (Some x) e = go' (same_has x)
+        where
+          go' : (has u x ≡ true) ⊎ (has u x ≡ false) → (name_at p.names i ≡ Some m) × (has u m ≡ false)
+          go' (inl a) = absurd (let none = (end.out i x e a).0 in cc)
+          go' (inr a) =
+              let same : x ≡ m = (let b = sym (stays i x e a).0 ∙ h in cc) in
+              (e ∙ ap (λ (y : Name). Some y) same, ap (has u) (sym same) ∙ a)
+
+  -- an index that is used is as it was
+  was_used : (i : ℕ) → life_at t.lives i ≢ Free → (life_at t.lives i ≡ life_at p.lives i) × ((m : Name) → name_at p.names i ≡ Some m → has u m ≡ false)
+  was_used i ne = go (name_at p.names i) refl
+    where
+      go : (o : Option Name) → name_at p.names i ≡ o → (life_at t.lives i ≡ life_at p.lives i) × ((m : Name) → name_at p.names i ≡ Some m → has u m ≡ false)
+      go None e = ((unnamed i e).1, λ m h. absurd (let a = e in cc))
+      go (Some x) e = go' (same_has x)
+        where
+          go' : (has u x ≡ true) ⊎ (has u x ≡ false) → (life_at t.lives i ≡ life_at p.lives i) × ((m : Name) → name_at p.names i ≡ Some m → has u m ≡ false)
+          go' (inl a) = absurd (ne (end.out i x e a).1)
+          go' (inr a) = ((stays i x e a).1, λ m h. let same : x ≡ m = (let b = sym e ∙ h in cc) in ap (has u) (sym same) ∙ a)
+
+  -- what lives is none of the unit
+  live_out : (i : ℕ) (m : Name) → name_at p.names i ≡ Some m → life_at p.lives i ≡ Live → has u m ≡ false
+  live_out i m h e = go (same_has m)
+    where
+      go : (has u m ≡ true) ⊎ (has u m ≡ false) → has u m ≡ false
+      go (inl a) = absurd (let g = gone_index k.names k.removed i m h (there m (has_among u m a)) in let l : is_gone (life_at p.lives i) ≡ false = ap is_gone e in cc)
+      go (inr a) = a
+
+  still_lives : (i : ℕ) (m : Name) → LivesAt p.names p.lives i m → LivesAt t.names t.lives i m
+  still_lives i m a = let o = stays i m a.name (live_out i m a.name a.life) in record { name = o.0; life = o.1 ∙ a.life }
+
+  lived : (i : ℕ) (m : Name) → LivesAt t.names t.lives i m → LivesAt p.names p.lives i m
+  lived i m a = let x = was_named i m a.name in record { name = x.0; life = sym (stays i m x.0 x.1).1 ∙ a.life }
+
+  used_live : (i : ℕ) → life_at t.lives i ≡ Live → life_at p.lives i ≡ Live
+  used_live i e = sym (was_used i (λ f. let a = e in cc)).0 ∙ e
+
+  names' : NamesShow z t.names p.made w.kinds
+  names' = record {
+    counts = k.names.counts;
+    items = end.by_name;
+    places = λ i m h. k.names.places i m (was_named i m h).0;
+    alone = λ i j m g h. k.names.alone i j m (was_named i m g).0 (was_named j m h).0;
+    few_names = k.names.few_names;
+  }
+
+  stands' : (at : ℕ) (v : List Name) → StandsAt p.names p.firsts p.sizes p.next p.lives w.units at v → StandsAt t.names p.firsts p.sizes p.next t.lives w.units at v
+  stands' at v x =
+      let member = k.units.named at (λ f. let a = x.life in absurd (let b = f in cc)) in
+      record {
+        among = x.among;
+        life = (still_lives at member.0 (record { name = member.1; life = x.life })).life;
+        own = x.own;
+        size = x.size;
+        linked = links_same p.names t.names p.next p.next v (λ i m a h. let j = x.inside m a in let here = k.names.alone i j.0 m h j.1.name in
+            ((stays i m h (live_out i m h (ap (life_at p.lives) here ∙ j.1.life))).0, refl)) at x.linked;
+        inside = λ m a. let j = x.inside m a in (j.0, still_lives j.0 m j.1, j.2);
+        whole = λ i m a f. x.whole i m (lived i m a) f;
+      }
+
+  units' : UnitsShow z t.names p.firsts p.sizes p.next t.lives w.units
+  units' = record {
+    firsts_len = k.units.firsts_len;
+    sizes_len = k.units.sizes_len;
+    links_len = k.units.links_len;
+    lives_len = end.by_life;
+    in_range = k.units.in_range;
+    small = k.units.small;
+    named = λ i ne.
+        let o = was_used i ne in
+        let m = k.units.named i (λ f. ne (o.0 ∙ f)) in
+        (m.0, (stays i m.0 m.1 (o.1 m.0 m.1)).0);
+    each = λ i e. let r = k.units.each i (used_live i e) in (r.0, stands' _ r.0 r.1);
+    all = λ v a. let r = k.units.all v a in (r.0, stands' r.0 v r.1);
+  }
+
+  roots' : RootsShow z t.names t.lives p.roots w.rooted w.cell w.strong
+  roots' = record {
+    bits = Lists-same p.roots (item_count z) (λ i. rooted_at w.rooted (name_at p.names i)) _ k.roots.bits (λ i. same i (name_at p.names i) refl);
+    living = λ m e. let j = k.roots.living m e in (j.0, still_lives j.0 m j.1);
+    cells_empty = k.roots.cells_empty;
+    no_strong = k.roots.no_strong;
+  }
+    where
+      not_rooted : (m : Name) → has u m ≡ true → w.rooted m ≡ false
+      not_rooted m a = go (w.rooted m) refl
+        where
+          go : (b : Bool) → w.rooted m ≡ b → b ≡ false
+          go true e = let j = k.roots.living m e in absurd (clash m a (live_out j.0 m j.1.name j.1.life))
+          go false e = refl
+
+      same : (i : ℕ) (o : Option Name) → name_at p.names i ≡ o → rooted_at w.rooted (name_at t.names i) ≡ rooted_at w.rooted (name_at p.names i)
+      same i None e = ap (rooted_at w.rooted) ((unnamed i e).0 ∙ sym e)
+      same i (Some m) e = go (same_has m)
+        where
+          go : (has u m ≡ true) ⊎ (has u m ≡ false) → rooted_at w.rooted (name_at t.names i) ≡ rooted_at w.rooted (name_at p.names i)
+          go (inl a) = ap (rooted_at w.rooted) (end.out i m e a).0 ∙ sym (not_rooted m a) ∙ sym (ap (rooted_at w.rooted) e)
+          go (inr a) = ap (rooted_at w.rooted) ((stays i m e a).0 ∙ sym e)
+
+  held' : HeldShow t.names t.lives w.opened s.frames
+  held' = record { living = λ lane m e. let j = k.held.living lane m e in (j.0, still_lives j.0 m j.1); closed = k.held.closed; paid = k.held.paid }
+
+  classes' : ClassesShow z t.names p.classes w.kinds
+  classes' = record { len = k.classes.len; each = λ i m h. k.classes.each i m (was_named i m h).0 }
+
+  -- ---- removed objects
+
+  gone_was : (i : ℕ) → is_gone (life_at t.lives i) ≡ true → (life_at t.lives i ≡ life_at p.lives i) × ((m : Name) → name_at p.names i ≡ Some m → has u m ≡ false)
+  gone_was i g = was_used i (λ f. let a : is_gone (life_at t.lives i) ≡ false = ap is_gone f in absurd (let b = g in cc))
+
+  in_rest : (r : Removal) → Among w.removals r → has u r.name ≡ false → Among rs r
+  in_rest r a out = subst (λ (xs : List Removal). Among xs r) rest_is (filter_among (λ x. not (has u x.name)) w.removals r a (ap not out))
+
+  of_rest : (r : Removal) → Among rs r → Among w.removals r × (has u r.name ≡ false)
+  of_rest r a =
+      let b = subst (λ (xs : List Removal). Among xs r) (sym rest_is) a in
+      (among_filter (λ x. not (has u x.name)) w.removals r b, flip (has u r.name) (among_filter_test (λ x. not (has u x.name)) w.removals r b))
+    where
+      flip : (b : Bool) → not b ≡ true → b ≡ false
+      flip false e = refl
+      flip true e = absurd cc
+
+  removed' : RemovedShow z t.names t.lives p.polls (p.left - get_or p.sizes head 0) p.swept w.phase rs w.found w.swept
+  removed' = subst (λ (phase : Phase). RemovedShow z t.names t.lives p.polls (p.left - get_or p.sizes head 0) p.swept phase rs w.found w.swept) (sym at_idle) record {
+    swept_is = k.removed.swept_is;
+    swept_few = k.removed.swept_few;
+    polls_len = k.removed.polls_len;
+    removed = λ i m h g.
+        let x = was_named i m h in
+        let same = (gone_was i g).0 in
+        let a = in_rest (removal_at p.lives p.polls i m) (k.removed.removed i m x.0 (ap is_gone (sym same) ∙ g)) x.1 in
+        subst (λ (life : Life). Among rs (record { name = m; stage = stage_of life; polls = get_or p.polls i 0 })) (sym same) a;
+    gone = λ r a.
+        let b = of_rest r a in
+        let j = k.removed.gone r b.0 in
+        let o = stays j.0 r.name j.1 b.1 in
+        (j.0, o.0, ap is_gone o.1 ∙ j.2);
+    distinct = distinct_names _ w.removals k.removed.distinct;
+    fresh = λ e. absurd cc;
+    found_is = λ e. absurd cc;
+    left_is = omega (arith, left_is, size_is);
+    left_few = λ e. absurd cc;
+    none_left = λ e. absurd cc;
+  }
+
+  abbrev Was : ℕ → List Name → Type 0
+  Was at v = LiesAt p.names p.firsts p.sizes p.next p.waiting p.lives w.removals w.last_removed at v
+
+  -- a unit with an object that is not released is another one
+  other_unit : (v : List Name) (m x : Name) → Among w.last_removed v → has v m ≡ true → has u m ≡ false → has v x ≡ true → has u x ≡ false
+  other_unit v m x a b out c = go (same_has x)
+    where
+      go : (has u x ≡ true) ⊎ (has u x ≡ false) → has u x ≡ false
+      go (inr d) = d
+      go (inl d) =
+          let same = same_unit w.last_removed v u x k.gone.distinct a in_units (has_among v x c) (has_among u x d) in
+          absurd (clash m (ap (λ (y : List Name). has y m) (sym same) ∙ b) out)
+
+  still_gone : (i : ℕ) (m : Name) → GoneAt p.names p.lives i m → has u m ≡ false → GoneAt t.names t.lives i m
+  still_gone i m a out = let o = stays i m a.name out in record { name = o.0; life = ap is_gone o.1 ∙ a.life }
+
+  lies' : (at : ℕ) (v : List Name) (m : Name) → Was at v → has v m ≡ true → has u m ≡ false → LiesAt t.names p.firsts p.sizes p.next p.waiting t.lives rs w.last_removed at v
+  lies' at v m x b out = record {
+    among = x.among;
+    life =
+        let h = k.units.named at (λ f. let a : is_gone (life_at p.lives at) ≡ false = ap is_gone f in absurd (let c = x.life in cc)) in
+        let here : GoneAt p.names p.lives at h.0 = record { name = h.1; life = x.life } in
+        (still_gone at h.0 here (other_unit v m h.0 x.among b out (x.whole at h.0 here x.own))).life;
+    own = x.own;
+    size = x.size;
+    linked = links_same p.names t.names p.next p.next v (λ i y a h. ((stays i y h (other_unit v m y x.among b out a)).0, refl)) at x.linked;
+    inside = λ y a. let j = x.inside y a in (j.0, still_gone j.0 y j.1 (other_unit v m y x.among b out a), j.2);
+    whole = λ i y a f. let h = was_named i y a.name in x.whole i y (record { name = h.0; life = ap is_gone (sym (stays i y h.0 h.1).1) ∙ a.life }) f;
+    waits = x.waits ∙ count_alike _ _ v (λ y a. ap not (sym (same_end y (other_unit v m y x.among b out (among_has v y a)))));
+  }
+    where
+      same_end : (y : Name) → has u y ≡ false → at_end rs y ≡ at_end w.removals y
+      same_end y e = is_at-released w0 n AtFinished y ∙ ap (λ (us : List Name). not (has us y) && at_end w.removals y) names_are ∙ ap (λ (b : Bool). not b && at_end w.removals y) e
+
+  gone' : GoneShow z t.names p.firsts p.sizes p.next p.waiting t.lives rs w.last_removed
+  gone' = record {
+    waiting_len = k.gone.waiting_len;
+    distinct = k.gone.distinct;
+    each = λ i g.
+        let o = gone_was i g in
+        let was : is_gone (life_at p.lives i) ≡ true = ap is_gone (sym o.0) ∙ g in
+        let r = k.gone.each i was in
+        let h = k.units.named i (λ f. let a : is_gone (life_at p.lives i) ≡ false = ap is_gone f in absurd (let c = was in cc)) in
+        (r.0, lies' _ r.0 h.0 r.1 (r.1.whole i h.0 (record { name = h.1; life = was }) refl) (o.1 h.0 h.1));
+    all = λ v m a b e.
+        let r = test_among (λ r. same_name m r.name) rs e in
+        let is = same_name_true m r.0.name r.2 in
+        let o = of_rest r.0 r.1 in
+        let old = k.gone.all v m a b (among_test (λ x. same_name m x.name) w.removals r.0 o.0 r.2) in
+        (old.0, lies' old.0 v m old.1 b (ap (has u) is ∙ o.1));
+  }
+
+  -- ---- the queue
+
+  ring_out : (m : Name) → Among q.ring m → has u m ≡ false
+  ring_out m a = go (same_has m)
+    where
+      go : (has u m ≡ true) ⊎ (has u m ≡ false) → has u m ≡ false
+      go (inr d) = d
+      go (inl d) =
+          let at = among_filter_test (is_at w0 AtBegun) _ m (subst (λ (ns : List Name). Among ns m) waits.ring_is a) in
+          let not_at = one_stage w0 m AtFinished AtBegun (distinct_different _ k.removed.distinct) (finished m (has_among u m d)) refl in
+          absurd (let b = at in cc)
+
+  queue' : QueueShows t.names p.order p.listed p.begun p.from p.kept None rs w.last_removed w.found s.collector.asked
+  queue' = record {
+    todo = [];
+    ring = q.ring;
+    ready = None;
+    todo_at = named_less p.names t.names u (λ i m h o. (stays i m h o).0) _ [] (λ m a. absurd a) (subst (λ (todo : List Name). AreNamed p.names (todo_of p.order p.listed p.begun) todo) no_todo q.todo_at);
+    ring_at = named_less p.names t.names u (λ i m h o. (stays i m h o).0) _ q.ring ring_out q.ring_at;
+    ready_at = tt;
+    queue = queue_release waits;
+  }
+
+  pub release_may : MayBy z s Collector (act.Released n)
+  release_may = record {
+    finishes = k.none_agreed;
+    may = record { gathered = λ e. let a = at_idle in absurd (let b = e in cc); begun = queue_begun waits; next = sym waits.ready_is.first };
+  }
+
+  pub release_shows : Shows z (record p { names = t.names; lives = t.lives; free = t.free; spare = t.spare; left = p.left - get_or p.sizes head 0; done = None }) (calm (next s (record { pass = Collector; act = act.Released n })))
+  release_shows = record {
+    phase = k.phase;
+    frames = k.frames;
+    names = names';
+    units = units';
+    distinct = k.distinct;
+    roots = roots';
+    held = held';
+    work = k.work;
+    idle = k.idle;
+    marks = λ e. absurd (let a = idle in cc);
+    roots_marked = λ e. absurd (let a = idle in cc);
+    classes = classes';
+    removed = removed';
+    gone = gone';
+    order = k.order;
+    gathers = λ e. absurd (let a = idle in cc);
+    queue = λ e. queue';
+    free = end.free;
+    none_agreed = refl;
+    none_asked = λ ne. absurd (ne idle);
+    no_steps = refl;
+  }
+
+  -- what a frame holds keeps its place
+  pub still_held : (lane : ℕ) (m : Name) → has (s.frames lane).held m ≡ true → (i : ℕ) → name_at p.names i ≡ Some m → name_at t.names i ≡ Some m
+  still_held lane m e i h =
+      let j = k.held.living lane m e in
+      let here = k.names.alone i j.0 m h j.1.name in
+      (stays i m h (live_out i m h (ap (life_at p.lives) here ∙ j.1.life))).0

@@ -1,0 +1,187 @@
+use Rattle.std.proofs.Common.{◌≡◌, ◌<◌, ◌≤◌, ◌^◌, refl, sym, ap, ◌∙◌, arith, get_or, length, Some, None, List, ◌∷◌, []}
+use Rattle.std.proofs.lemmas.List.{get_or_read}
+use Rattle.world_model.specs.Sizes.{item_count}
+use Rattle.world_model.specs.Histories.{after}
+use Rattle.heap_plain.proofs.WorldFacts.{appends_one}
+use Rattle.heap_plain.proofs.Purges.{purge_starts, begin_named, begin_below, purge_begins, ask_from, ask_kept, ask_named, ask_below, ask_head, ask_waits, purge_refused, purge_agreed, release_below, release_named, release_few, release_chain, release_can, purge_released, purge_ends, purge_appends, purge_calls, purge_tested, purge_held, waits_plain, waits_alone, waits_calls, waits_tested, waits_held}
+use Rattle.heap_plain.proofs.heap.PlainHeapEngine.purge.Given.{Over}
+use Rattle.heap_plain.proofs.heap.PlainHeapEngine.purge.Goals.{then-loop-steps-test+else-self-gt0, else-loop-steps-test}
+use Rattle.heap_plain.proofs.heap.PlainHeapEngine.purge.Goals as goal
+
+pub invariant_of-self : goal.invariant_of-self
+invariant_of-self g c = rw c.purge_gc.ensures (waits_plain _ _ _ _ c.self.invariant c.in-Gathering.is)
+
+pub returns-in-Gathering-clause-entries : goal.returns-in-Gathering-clause-entries
+returns-in-Gathering-clause-entries g c =
+    rw (← c.self.view_is) (appends_one _ _ _ _ _ (waits_alone c.args.budget) c.purge_gc.ensures (rw c.purge_gc.ensures (waits_plain _ _ _ c.args.budget c.self.invariant c.in-Gathering.is).legal))
+
+pub returns-in-Gathering-clause-calls : goal.returns-in-Gathering-clause-calls
+returns-in-Gathering-clause-calls g c = rw (← c.self.view_is, c.purge_gc.ensures) (waits_calls (after c.self.inside.diary) c.self.inside.diary c.args.budget (g.D.Hooks.calls c.args.hooks.now))
+
+pub returns-in-Gathering-clause-held : goal.returns-in-Gathering-clause-held
+returns-in-Gathering-clause-held g c = rw (← c.self.view_is, c.purge_gc.ensures) (waits_held _ _ _)
+
+pub loop-steps-init : goal.loop-steps-init
+loop-steps-init g c = rw (← c.self.view_is) (record { within = omega arith; purging = purge_starts _ _ _ _ _ c.self.invariant refl c.in_default.not-Gathering })
+
+pub begin_at-requires : goal.begin_at-requires
+begin_at-requires g c =
+    let i = c.loop-steps.invariant.purging in
+    let s = i.shows in
+    let x : c.index.result.now ≡ get_or c.loop-steps.self-inside.order.items c.loop-steps.self-inside.begun 0 =
+    get_or_read c.loop-steps.self-inside.order.items _ _ (omega (arith, c.if-self.true, s.order.listed_few, s.order.len)) c.index.ensures 0 in
+    let below = begin_below i c.if-self-gt0.true c.if-self.true in
+    rw (c.deref.ensures.value, c.deref-then-self.ensures.value, x) (record {
+      named = begin_named i c.if-self-gt0.true c.if-self.true;
+      classes = omega (arith, below, s.classes.len);
+      lives = omega (arith, below, s.units.lives_len);
+    })
+
+pub loop-steps-preserved-then-self : goal.loop-steps-preserved-then-self
+loop-steps-preserved-then-self g c =
+    let i = c.loop-steps.invariant.purging in
+    let s = i.shows in
+    let x : c.index.result.now ≡ get_or c.loop-steps.self-inside.order.items c.loop-steps.self-inside.begun 0 =
+    get_or_read c.loop-steps.self-inside.order.items _ _ (omega (arith, c.if-self.true, s.order.listed_few, s.order.len)) c.index.ensures 0 in
+    rw (c.begin_at.ensures.lives, c.begin_at.ensures.entries, c.deref.ensures.value, x) (record {
+      within = omega (arith, c.loop-steps-test.true);
+      purging = purge_begins i c.if-self-gt0.true c.if-self.true (rw (c.deref.ensures.value, c.deref-then-self.ensures.value, x) at c.begin_at.ensures.calls) c.begin_at.ensures.test;
+    })
+
+pub index-size-requires : goal.index-size-requires
+index-size-requires g c =
+    let i = c.loop-steps.invariant.purging in
+    omega (arith, release_below i c.if-self-gt0.true c.if-self.false c.in-Some.head c.in-Some.is (omega (arith, g.S.Shape.lawful.few_items)), i.shows.units.sizes_len, c.loop-steps.self-inside.sizes.ok.0)
+
+pub overflow_sub-self : goal.overflow_sub-self
+overflow_sub-self g c =
+    let i = c.loop-steps.invariant.purging in
+    let few : item_count g.S.Shape.sizes < 2 ^ 32 = omega (arith, g.S.Shape.lawful.few_items) in
+    let below = release_below i c.if-self-gt0.true c.if-self.false c.in-Some.head c.in-Some.is few in
+    let size : c.index-size.result.now ≡ get_or c.loop-steps.self-inside.sizes.items c.in-Some.head 0 = get_or_read c.loop-steps.self-inside.sizes.items _ _ (omega (arith, below, i.shows.units.sizes_len)) c.index-size.ensures 0 in
+    omega (arith, size, release_few i c.if-self-gt0.true c.if-self.false c.in-Some.head c.in-Some.is few)
+
+pub named-requires : goal.named-requires
+named-requires g c =
+    let i = c.loop-steps.invariant.purging in
+    rw (c.deref-in-Some.ensures.value) (release_named i c.if-self-gt0.true c.if-self.false c.in-Some.head c.in-Some.is (omega (arith, g.S.Shape.lawful.few_items)))
+
+pub release-requires : goal.release-requires
+release-requires g c =
+    let i = c.loop-steps.invariant.purging in
+    let few : item_count g.S.Shape.sizes < 2 ^ 32 = omega (arith, g.S.Shape.lawful.few_items) in
+    let below = release_below i c.if-self-gt0.true c.if-self.false c.in-Some.head c.in-Some.is few in
+    let size : c.index-size.result.now ≡ get_or c.loop-steps.self-inside.sizes.items c.in-Some.head 0 = get_or_read c.loop-steps.self-inside.sizes.items _ _ (omega (arith, below, i.shows.units.sizes_len)) c.index-size.ensures 0 in
+    rw (c.deref-in-Some-2.ensures.value, c.QUOTA.ensures, g.S.Shape.constants.quota, size) (record {
+      chain = release_chain i c.if-self-gt0.true c.if-self.false c.in-Some.head c.in-Some.is few;
+      can = release_can i c.if-self-gt0.true c.if-self.false c.in-Some.head c.in-Some.is few;
+    })
+
+pub loop-steps-preserved-in-Some : goal.loop-steps-preserved-in-Some
+loop-steps-preserved-in-Some g c =
+    let i = c.loop-steps.invariant.purging in
+    let few : item_count g.S.Shape.sizes < 2 ^ 32 = omega (arith, g.S.Shape.lawful.few_items) in
+    let below = release_below i c.if-self-gt0.true c.if-self.false c.in-Some.head c.in-Some.is few in
+    let size : c.index-size.result.now ≡ get_or c.loop-steps.self-inside.sizes.items c.in-Some.head 0 = get_or_read c.loop-steps.self-inside.sizes.items _ _ (omega (arith, below, i.shows.units.sizes_len)) c.index-size.ensures 0 in
+    let t = rw (c.deref-in-Some-2.ensures.value, c.QUOTA.ensures, g.S.Shape.constants.quota, size) at c.release.ensures in
+    let name = rw (c.deref-in-Some.ensures.value) at c.named.ensures in
+    rw c.released.ensures (record {
+      within = omega (arith, c.loop-steps-test.true);
+      purging = purge_released i c.if-self-gt0.true c.if-self.false c.in-Some.head c.in-Some.is few c.named.result name c.index-size.result.now size _ t;
+    })
+
+pub index-index-requires : goal.index-index-requires
+index-index-requires g c =
+    let i = c.loop-steps.invariant.purging in
+    rw c.turned-end.ensures (omega (arith, ask_from i c.if-self-gt0.true c.if-self.false c.in_default-done.is, c.loop-steps.self-inside.order.ok.0))
+
+pub ask_at-agreed-requires : goal.ask_at-agreed-requires
+ask_at-agreed-requires g c =
+    let i = c.loop-steps.invariant.purging in
+    let s = i.shows in
+    let at : c.turned-end.result.1 < length c.loop-steps.self-inside.order.items = rw c.turned-end.ensures (ask_from i c.if-self-gt0.true c.if-self.false c.in_default-done.is) in
+    let y : c.index-index.result.now ≡ get_or c.loop-steps.self-inside.order.items c.turned-end.result.1 0 = get_or_read c.loop-steps.self-inside.order.items _ _ at c.index-index.ensures 0 in
+    let below = ask_below i c.if-self-gt0.true c.if-self.false c.in_default-done.is in
+    rw (c.deref-in-loop-steps.ensures.value, c.deref-in-loop-steps-2.ensures.value, y, c.turned-end.ensures) (record {
+      named = ask_named i c.if-self-gt0.true c.if-self.false c.in_default-done.is;
+      classes = omega (arith, below, s.classes.len);
+      polls = omega (arith, below, s.removed.polls_len);
+    })
+
+pub finish_at-self-inside-requires : goal.finish_at-self-inside-requires
+finish_at-self-inside-requires g c =
+    let i = c.loop-steps.invariant.purging in
+    let s = i.shows in
+    let at : c.turned-end.result.1 < length c.loop-steps.self-inside.order.items = rw c.turned-end.ensures (ask_from i c.if-self-gt0.true c.if-self.false c.in_default-done.is) in
+    let y : c.index-index.result.now ≡ get_or c.loop-steps.self-inside.order.items c.turned-end.result.1 0 = get_or_read c.loop-steps.self-inside.order.items _ _ at c.index-index.ensures 0 in
+    let below = ask_below i c.if-self-gt0.true c.if-self.false c.in_default-done.is in
+    rw (c.deref-then-agreed.ensures.value, y, c.turned-end.ensures) (record {
+      firsts = omega (arith, below, s.units.firsts_len);
+      lives = omega (arith, below, s.units.lives_len);
+      head = omega (arith, ask_head i c.if-self-gt0.true c.if-self.false c.in_default-done.is, s.gone.waiting_len);
+      some = ask_waits i c.if-self-gt0.true c.if-self.false c.in_default-done.is;
+    })
+
+pub loop-steps-preserved-then-agreed : goal.loop-steps-preserved-then-agreed
+loop-steps-preserved-then-agreed g c =
+    let i = c.loop-steps.invariant.purging in
+    let at : c.turned-end.result.1 < length c.loop-steps.self-inside.order.items = rw c.turned-end.ensures (ask_from i c.if-self-gt0.true c.if-self.false c.in_default-done.is) in
+    let y : c.index-index.result.now ≡ get_or c.loop-steps.self-inside.order.items c.turned-end.result.1 0 = get_or_read c.loop-steps.self-inside.order.items _ _ at c.index-index.ensures 0 in
+    rw (
+      c.finish_at-self-inside.ensures.lives,
+      c.finish_at-self-inside.ensures.waiting,
+      c.finish_at-self-inside.ensures.unit,
+      c.ask_at-agreed.ensures.polls,
+      c.ask_at-agreed.ensures.entries,
+      c.deref-in-loop-steps.ensures.value,
+      c.deref-then-agreed.ensures.value,
+      c.if-agreed.true,
+      y,
+      c.turned-end.ensures,
+    ) (record {
+      within = omega (arith, c.loop-steps-test.true);
+      purging = purge_agreed i c.if-self-gt0.true c.if-self.false c.in_default-done.is
+          (rw (c.deref-in-loop-steps.ensures.value, c.deref-in-loop-steps-2.ensures.value, c.if-agreed.true, y, c.turned-end.ensures) at c.ask_at-agreed.ensures.calls)
+          (rw (c.deref-in-loop-steps.ensures.value, c.deref-in-loop-steps-2.ensures.value, c.if-agreed.true, y, c.turned-end.ensures) at c.ask_at-agreed.ensures.answer)
+          c.ask_at-agreed.ensures.test;
+    })
+
+pub index_mut-requires : goal.index_mut-requires
+index_mut-requires g c =
+    let i = c.loop-steps.invariant.purging in
+    rw c.turned-end.ensures (omega (arith, ask_kept i c.if-self-gt0.true c.if-self.false c.in_default-done.is, c.loop-steps.self-inside.order.ok.0))
+
+pub loop-steps-preserved : goal.loop-steps-preserved
+loop-steps-preserved g c =
+    let i = c.loop-steps.invariant.purging in
+    let at : c.turned-end.result.1 < length c.loop-steps.self-inside.order.items = rw c.turned-end.ensures (ask_from i c.if-self-gt0.true c.if-self.false c.in_default-done.is) in
+    let y : c.index-index.result.now ≡ get_or c.loop-steps.self-inside.order.items c.turned-end.result.1 0 = get_or_read c.loop-steps.self-inside.order.items _ _ at c.index-index.ensures 0 in
+    rw (c.ask_at-agreed.ensures.polls, c.ask_at-agreed.ensures.entries, c.deref-in-loop-steps.ensures.value, c.if-agreed.false, y, c.turned-end.ensures) (record {
+      within = omega (arith, c.loop-steps-test.true);
+      purging = purge_refused i c.if-self-gt0.true c.if-self.false c.in_default-done.is
+          (rw (c.deref-in-loop-steps.ensures.value, c.deref-in-loop-steps-2.ensures.value, c.if-agreed.false, y, c.turned-end.ensures) at c.ask_at-agreed.ensures.calls)
+          (rw (c.deref-in-loop-steps.ensures.value, c.deref-in-loop-steps-2.ensures.value, c.if-agreed.false, y, c.turned-end.ensures) at c.ask_at-agreed.ensures.answer)
+          c.ask_at-agreed.ensures.test;
+    })
+
+-- there are fewer steps than the budget only where nothing is left
+early : (g : Over) (c : goal.After-purge_gc-2 g) → c.loop-steps.steps < c.args.budget → c.loop-steps.self-inside.left ≡ 0
+early g c less = elim c.loop-steps-test.branch [
+  | then-loop-steps-test+else-self-gt0 w ↦ omega (arith, w.if-self-gt0.false)
+  | else-loop-steps-test w ↦ absurd (omega (arith, w.loop-steps-test.false, less))
+]
+
+pub invariant_of-self-2 : goal.invariant_of-self-2
+invariant_of-self-2 g c = rw c.purge_gc-2.ensures (purge_ends c.loop-steps.invariant.purging c.args.budget c.loop-steps.invariant.within (early g c))
+
+pub returns : goal.returns
+returns g c =
+    let i = c.loop-steps.invariant.purging in
+    let within = c.loop-steps.invariant.within in
+    rw c.purge_gc-2.ensures (record {
+      entries = purge_appends i c.args.budget within (early g c);
+      calls = purge_calls i c.args.budget within (early g c);
+      tested = purge_tested i c.args.budget within (early g c);
+      same_test = i.same;
+      held = purge_held i c.args.budget within (early g c);
+    })

@@ -1,0 +1,11 @@
+use Rattle.std.proofs.Common.{◌≡◌}
+use Rattle.heap_plain.specs.Listing.{chained}
+use Rattle.heap_plain.specs.Purging.{give_all}
+use Rattle.heap_plain.proofs.purging.release.Given as goal
+
+abbrev pub invariant-loop-k : goal.invariant-loop-k
+invariant-loop-k l = record {
+  index : l.index ≡ chained l.next l.head l.k;
+  given : record { names = l.names.items; lives = l.lives.items; free = l.free.items; spare = l.spare.items }
+      ≡ give_all l.quota (record { names = l.fn.names.items; lives = l.fn.lives.items; free = l.fn.free.items; spare = l.fn.spare.items }) l.next l.head l.k;
+}

@@ -1,0 +1,59 @@
+//! Listing the members of removed units, as a sweep finds their first members.
+ghost use Rattle.std.specs.Prelude.{◌≡◌, ◌+◌, ◌<◌, ◌≤◌, length, get_or, ℕ};
+ghost use Rattle.heap_plain.specs.Filling.{Filled};
+ghost use Rattle.heap_plain.specs.Parts.{life_at, first_at};
+ghost use Rattle.heap_plain.specs.Listing.{chained, begins, CanList, ListsUnits};
+
+use crate::life::Life;
+
+/// Writes the indexes of a unit's members, of which the first is at `head`, to the places from `at`
+/// on.
+fn list_unit(next: &[u32], head: u32, count: usize, order: &mut Vec<u32>, at: usize)
+    requires chain { (k : ℕ) → k < count → chained next.now head k < length next.now }
+    requires room { at + count ≤ length order.old.items }
+    ensures { Filled order.old.items order.new.items at count (chained next.now head) }
+{
+    let mut index = head;
+    for k in 0..count {
+        order[at + k] = index;
+        index = next[index as usize];
+    }
+}
+
+/// Whether the first member of a removed unit is at an index.
+fn begins(life: Life, first: usize, index: usize) -> bool
+    ensures { result ≡ begins life first index }
+{
+    match life {
+        Life::Removed => first == index,
+        _ => false,
+    }
+}
+
+/// Looks for the first members of removed units at `count` items from `from` on, and appends the
+/// indexes of the units' members to the first `listed` places of `order`. It tells how many places
+/// are used after that.
+pub(crate) fn list_units(
+    lives: &[Life],
+    firsts: &[u32],
+    sizes: &[u32],
+    next: &[u32],
+    from: usize,
+    count: usize,
+    order: &mut Vec<u32>,
+    listed: usize,
+) -> usize
+    requires can { CanList lives.now firsts.now sizes.now next.now from count listed (length order.old.items) }
+    ensures { ListsUnits lives.now firsts.now sizes.now next.now from count listed result order.old.items order.new.items }
+{
+    let mut all = listed;
+    for k in 0..count {
+        let index = from + k;
+        if begins(lives[index], firsts[index] as usize, index) {
+            let size = sizes[index] as usize;
+            list_unit(next, index as u32, size, order, all);
+            all += size;
+        }
+    }
+    all
+}

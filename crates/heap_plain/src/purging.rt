@@ -1,0 +1,157 @@
+//! The steps of destruction.
+ghost use Rattle.std.specs.Prelude.{◌≡◌, ◌∷◌, [], ◌++◌, ◌-◌, ◌<◌, ℕ, IsSome, get_or, length};
+ghost use Rattle.std.proofs.Math.ListN.{set};
+ghost use Rattle.heap_plain.specs.declared.life.Life.TheVariants.{Begun, Finished};
+ghost use Rattle.heap_plain.specs.Types.act;
+ghost use Rattle.heap_plain.specs.Types.called;
+ghost use Rattle.heap_plain.specs.Types.{Collector};
+ghost use Rattle.world_model.specs.Calls.{by};
+ghost use Rattle.world_model.specs.Hooks.{SameTest};
+ghost use Rattle.heap_plain.specs.Parts.{name_at, name_of, class_at, first_at};
+ghost use Rattle.heap_plain.specs.Purging.{Tells, turned, asked_acts, asked_calls, next_poll, CanGive, give, give_all, finished_unit};
+ghost use Rattle.heap_plain.specs.Listing.{chained};
+
+use crate::life::Life;
+use crate::marking::named;
+use world_model::{ClassId, Diary, Hooks, Name, Pass};
+
+/// Tells the object at an index to begin its destruction, and notes it.
+pub(crate) fn begin_at<D: Hooks>(
+    names: &[Option<Name>],
+    classes: &[ClassId],
+    lives: &mut Vec<Life>,
+    index: usize,
+    hooks: &mut D,
+    diary: &mut Diary,
+)
+    requires named { IsSome (name_at names.now index) }
+    requires classes { index < length classes.now }
+    requires lives { index < length lives.old.items }
+    ensures lives { lives.new.items ≡ set lives.old.items index Begun }
+    ensures entries { diary.new ≡ diary.old ++ by Collector (act.Begun (name_of names.now index) ∷ []) }
+    ensures calls { Tells (D.calls hooks.old) (D.calls hooks.new) (called.Begin (name_of names.now index) (class_at classes.now index) ∷ []) }
+    ensures test { SameTest (D.test hooks.old) (D.test hooks.new) }
+{
+    let name = named(names, index);
+    hooks.begin(name, classes[index]);
+    diary.begun(Pass::Collector, name);
+    lives[index] = Life::Begun;
+}
+
+/// The end of the queue, the next place to be asked and the number of places that are kept: where
+/// the round has ended, a new one begins with those that were kept.
+pub(crate) fn turned(begun: usize, from: usize, kept: usize) -> (usize, usize, usize)
+    ensures { result ≡ turned begun from kept }
+{
+    if from == begun {
+        (kept, 0, 0)
+    } else {
+        (begun, from, kept)
+    }
+}
+
+/// The number of the next poll of an object that was polled so often.
+fn next_poll(polls: u32) -> u32
+    ensures { result ≡ next_poll polls }
+{
+    if polls < 65535 { polls + 1 } else { 65535 }
+}
+
+/// Asks the object at an index whether it is ready, and notes it. If it is, it is told to finish
+/// its destruction, and that is noted.
+pub(crate) fn ask_at<D: Hooks>(
+    names: &[Option<Name>],
+    classes: &[ClassId],
+    polls: &mut Vec<u32>,
+    index: usize,
+    hooks: &mut D,
+    diary: &mut Diary,
+) -> bool
+    requires named { IsSome (name_at names.now index) }
+    requires classes { index < length classes.now }
+    requires polls { index < length polls.old.items }
+    ensures polls { polls.new.items ≡ set polls.old.items index (next_poll (get_or polls.old.items index 0)) }
+    ensures entries { diary.new ≡ diary.old ++ by Collector (asked_acts (name_of names.now index) (next_poll (get_or polls.old.items index 0)) result) }
+    ensures calls { Tells (D.calls hooks.old) (D.calls hooks.new) (asked_calls (name_of names.now index) (class_at classes.now index) (next_poll (get_or polls.old.items index 0)) result) }
+    ensures answer { D.test hooks.old (name_of names.now index) (class_at classes.now index) (next_poll (get_or polls.old.items index 0)) result }
+    ensures test { SameTest (D.test hooks.old) (D.test hooks.new) }
+{
+    let name = named(names, index);
+    let class = classes[index];
+    let poll = next_poll(polls[index]);
+    polls[index] = poll;
+    let answer = hooks.ready(name, class, poll);
+    diary.asked(Pass::Collector, name, poll, answer);
+    if answer {
+        hooks.finish(name, class);
+        diary.finished(Pass::Collector, name);
+    }
+    answer
+}
+
+/// Counts an object as finished. It tells the first index of its unit, where all members of that
+/// are finished then.
+pub(crate) fn finish_at(
+    firsts: &[u32],
+    lives: &mut Vec<Life>,
+    waiting: &mut Vec<u32>,
+    index: usize,
+) -> Option<u32>
+    requires firsts { index < length firsts.now }
+    requires lives { index < length lives.old.items }
+    requires head { first_at firsts.now index < length waiting.old.items }
+    requires some { 0 < get_or waiting.old.items (first_at firsts.now index) 0 }
+    ensures lives { lives.new.items ≡ set lives.old.items index Finished }
+    ensures waiting { waiting.new.items ≡ set waiting.old.items (first_at firsts.now index) (get_or waiting.old.items (first_at firsts.now index) 0 - 1) }
+    ensures unit { result ≡ finished_unit (first_at firsts.now index) (get_or waiting.old.items (first_at firsts.now index) 0 - 1) }
+{
+    let head = firsts[index];
+    let rest = waiting[head as usize] - 1;
+    lives[index] = Life::Finished;
+    waiting[head as usize] = rest;
+    if rest == 0 { Some(head) } else { None }
+}
+
+/// Takes the object off an index, and pushes the index on the stack of its lane.
+fn give_back(
+    names: &mut Vec<Option<Name>>,
+    lives: &mut Vec<Life>,
+    free: &mut Vec<u32>,
+    spare: &mut Vec<u32>,
+    quota: u32,
+    index: u32,
+)
+    requires { CanGive quota (record { names = names.old.items; lives = lives.old.items; free = free.old.items; spare = spare.old.items }) index }
+    ensures { record { names = names.new.items; lives = lives.new.items; free = free.new.items; spare = spare.new.items } ≡ give quota (record { names = names.old.items; lives = lives.old.items; free = free.old.items; spare = spare.old.items }) index }
+{
+    let lane = named(names, index as usize).lane;
+    let top = spare[lane as usize];
+    names[index as usize] = None;
+    lives[index as usize] = Life::Free;
+    free[lane as usize * quota as usize + top as usize] = index;
+    spare[lane as usize] = top + 1;
+}
+
+/// Takes the `count` objects of a unit off their indexes, of which the first is `head`, and pushes
+/// each index on the stack of its lane.
+pub(crate) fn release(
+    names: &mut Vec<Option<Name>>,
+    lives: &mut Vec<Life>,
+    free: &mut Vec<u32>,
+    spare: &mut Vec<u32>,
+    next: &[u32],
+    quota: u32,
+    head: u32,
+    count: u32,
+)
+    requires chain { (k : ℕ) → k < count → chained next.now head k < length next.now }
+    requires can { (k : ℕ) → k < count → CanGive quota (give_all quota (record { names = names.old.items; lives = lives.old.items; free = free.old.items; spare = spare.old.items }) next.now head k) (chained next.now head k) }
+    ensures { record { names = names.new.items; lives = lives.new.items; free = free.new.items; spare = spare.new.items } ≡ give_all quota (record { names = names.old.items; lives = lives.old.items; free = free.old.items; spare = spare.old.items }) next.now head count }
+{
+    let mut index = head;
+    for k in 0..count {
+        let _ = k;
+        give_back(names, lives, free, spare, quota, index);
+        index = next[index as usize];
+    }
+}
