@@ -3,7 +3,7 @@ use Rattle.std.proofs.Common.{◌≡◌, ℕ, ◌+◌, ◌<◌, sym, ap, ◌∙�
 use Rattle.std.specs.Option.{option_map_or}
 use Rattle.std.proofs.lemmas.List.{get_or_append_left, get_or-append-add}
 use Rattle.std.proofs.lemmas.Option.{slice_get-get_or}
-use Rattle.heap_plain.specs.Types.{Kind, ClassId}
+use Rattle.heap_plain.specs.Types.{Kind}
 use Rattle.heap_plain.specs.Types.ready
 use Rattle.heap_plain.specs.Parts.{kind_class}
 

@@ -18,10 +18,10 @@ use Rattle.world_model.specs.Histories.{after, state_of, MayBy}
 use Rattle.world_model.proofs.ListFacts.{Among, among_append, and_true, or_true, or_right}
 use Rattle.world_model.proofs.NameFacts.{names_from_range, set_at_same}
 use Rattle.world_model.proofs.Units.{AreApart, next_apart, units_apart}
-use Rattle.heap_plain.specs.Types.{Name, Ref, ClassId, Kind, Lane, Phase, Gathering, Entry}
+use Rattle.heap_plain.specs.Types.{Name, Ref, ClassId, Kind, Lane, Phase, Entry}
 use Rattle.heap_plain.specs.Types.act
 use Rattle.heap_plain.specs.declared.life.Life.{Life}
-use Rattle.heap_plain.specs.declared.life.Life.TheVariants.{Free, Live, Removed}
+use Rattle.heap_plain.specs.declared.life.Life.TheVariants.{Free, Live}
 use Rattle.heap_plain.specs.Parts.{Parts, name_at, life_at, first_at, next_at, class_at, kind_class, is_gone, stage_of, Holds}
 use Rattle.heap_plain.specs.Sweeping.{removed_name}
 use Rattle.heap_plain.specs.Filling.{FilledAt}

@@ -1,23 +1,21 @@
 -- The objects of a unit are taken off their indexes, one after the other.
-use Rattle.std.proofs.Common.{◌≡◌, ◌≢◌, ℕ, ◌+◌, ◌*◌, ◌<◌, ◌≤◌, ◌^◌, ◌==◌, ◌||◌, refl, sym, subst, ap, ◌∙◌, inl, inr, zero, suc, arith, Bool, cond, true, false, List, [], ◌∷◌, ◌++◌, length, map, get_or, count_by, Option, Some, None, IsSome, is_some, unwrap_or}
+use Rattle.std.proofs.Common.{◌≡◌, ◌≢◌, ℕ, ◌+◌, ◌*◌, ◌<◌, ◌^◌, ◌==◌, ◌||◌, refl, sym, subst, ap, ◌∙◌, inl, inr, zero, suc, arith, Bool, cond, true, false, List, [], ◌∷◌, ◌++◌, length, map, count_by, Option, Some, None, is_some, unwrap_or}
 use Rattle.std.proofs.Math.ListN.{set}
 use Rattle.std.proofs.Math.Logic.{dite}
 use Rattle.std.proofs.Math.Decide.{ℕ_discrete}
 use Rattle.std.proofs.lemmas.List.{length-set, get_or-set_same, get_or-set_other}
 use Rattle.world_model.specs.Sizes.{Sizes, item_count}
-use Rattle.world_model.specs.NameLists.{same_name, has, members}
+use Rattle.world_model.specs.NameLists.{same_name, has}
 use Rattle.world_model.specs.World.{Removal}
 use Rattle.world_model.proofs.ListFacts.{Among, or_false, or_right}
-use Rattle.world_model.proofs.NameFacts.{same_name_true, same_name_refl}
+use Rattle.world_model.proofs.NameFacts.{same_name_refl}
 use Rattle.heap_plain.specs.Types.{Name}
-use Rattle.heap_plain.specs.declared.life.Life.{Life}
 use Rattle.heap_plain.specs.declared.life.Life.TheVariants.{Free}
-use Rattle.heap_plain.specs.Parts.{name_at, name_of, life_at, next_at, is_gone}
+use Rattle.heap_plain.specs.Parts.{name_at, life_at, next_at, is_gone}
 use Rattle.heap_plain.specs.Listing.{chained}
 use Rattle.heap_plain.specs.Purging.{Stocks, lane_at, give, give_all, CanGive}
 use Rattle.heap_plain.specs.Sections.{Distinct, AreLinked, IsOfLane, FreeShows, spare_at, removal_of}
-use Rattle.heap_plain.proofs.WorldFacts.{among_has, has_among}
-use Rattle.heap_plain.proofs.Standing.{name_below}
+use Rattle.heap_plain.proofs.WorldFacts.{differs}
 use Rattle.heap_plain.proofs.SliceSteps.{count_cons}
 use Rattle.heap_plain.proofs.Popping.{lane_below, lane_end}
 use Rattle.heap_plain.proofs.Pushing.{free_pushed, few, inside}
@@ -59,13 +57,6 @@ pub record Emptied (z : Sizes) (s t : Stocks) (v : List Name) (units : List (Lis
 pub record Empties (z : Sizes) (s : Stocks) (links : List ℕ) (i : ℕ) (v : List Name) (units : List (List Name)) (rest : List Removal) : Type 0 where
   pub can : (k : ℕ) → k < length v → CanGive z.quota (give_all z.quota s links i k) (chained links i k)
   pub end : Emptied z s (give_all z.quota s links i (length v)) v units rest
-
-differs : (x y : Name) → (x ≡ y → ⊥) → same_name x y ≡ false
-differs x y ne = test (same_name x y) refl
-  where
-    test : (b : Bool) → same_name x y ≡ b → b ≡ false
-    test true e = absurd (ne (same_name_true x y e))
-    test false e = refl
 
 links_less : (names ns : List (Option Name)) (links : List ℕ) (n : Name) (u : List Name) → (Among u n → ⊥) → ((j : ℕ) (m : Name) → (n ≡ m → ⊥) → name_at names j ≡ Some m → name_at ns j ≡ Some m)
     → (i : ℕ) → AreLinked names links i u → AreLinked ns links i u

@@ -1,30 +1,28 @@
 -- The queue of destruction, as sweeps build it.
-use Rattle.std.proofs.Common.{◌≡◌, ◌≢◌, ℕ, ◌+◌, ◌<◌, ◌≤◌, ◌==◌, ◌||◌, ◌⊎◌, refl, sym, subst, ap, ◌∙◌, inl, inr, zero, suc, arith, Bool, cond, true, false, not, List, [], ◌∷◌, ◌++◌, append-nil, length, length-append, map, filter, flat_map, get_or, take, Option, Some, None}
-use Rattle.std.specs.List.{list_any}
+use Rattle.std.proofs.Common.{◌≡◌, ◌≢◌, ℕ, ◌+◌, ◌<◌, ◌≤◌, ◌==◌, ◌||◌, ◌⊎◌, refl, sym, subst, ap, ◌∙◌, inl, inr, zero, suc, arith, Bool, cond, true, false, List, [], ◌∷◌, ◌++◌, append-nil, length, map, filter, flat_map, get_or, Option, Some}
 use Rattle.std.proofs.Math.Logic.{dite}
 use Rattle.std.proofs.Math.Decide.{ℕ_discrete}
-use Rattle.std.proofs.lemmas.Bool.{eqb-true, eqb-false, eq-eqb}
-use Rattle.std.proofs.lemmas.List.{length-take-le, length-map}
+use Rattle.std.proofs.lemmas.Bool.{eqb-true, eqb-false}
 use Rattle.std.proofs.lemmas.Grind.{flat_map-append}
-use Rattle.world_model.specs.Sizes.{Sizes, item_count}
+use Rattle.world_model.specs.Sizes.{Sizes}
 use Rattle.world_model.specs.NameLists.{same_name, has, members, begins_with}
-use Rattle.world_model.specs.World.{World, Stage, Removal, Removed as AtRemoved, destruction_order}
+use Rattle.world_model.specs.World.{Removal, Removed as AtRemoved}
 use Rattle.world_model.proofs.ListFacts.{Among, among_append, among_filter, among_filter_test, filter_among}
 use Rattle.world_model.proofs.NameFacts.{same_name_true, same_name_refl}
-use Rattle.heap_plain.specs.Types.{Name, Kind, Phase, Gathering}
+use Rattle.heap_plain.specs.Types.{Name, Kind, Gathering}
 use Rattle.heap_plain.specs.declared.life.Life.{Life}
 use Rattle.heap_plain.specs.declared.life.Life.TheVariants.{Free, Live, Removed, Begun, Finished}
 use Rattle.heap_plain.specs.Parts.{name_at, life_at, first_at, is_gone, stage_of}
 use Rattle.heap_plain.specs.Stacks.{falling}
 use Rattle.heap_plain.specs.Sweeping.{removed_name, removed_names}
 use Rattle.heap_plain.specs.Listing.{chained, chain, begins, unit_at, units_at}
-use Rattle.heap_plain.specs.Sections.{Distinct, NamesShow, UnitsShow, RemovedShow, removal_at, GoneAt, GoneShow, LiesAt, AreLinked, AreNamed, still_there, gone_world}
+use Rattle.heap_plain.specs.Sections.{Distinct, NamesShow, UnitsShow, RemovedShow, removal_at, GoneShow, LiesAt, AreLinked, AreNamed, still_there}
 use Rattle.heap_plain.proofs.WorldFacts.{among_has, has_among, among_left, among_right, test_among, among_test, no_longer}
 use Rattle.heap_plain.proofs.Stacking.{length-falling}
-use Rattle.heap_plain.proofs.Standing.{name_below, life_below}
+use Rattle.heap_plain.proofs.Standing.{name_below}
 use Rattle.heap_plain.proofs.NewNames.{among_members, members_among, distinct_append}
 use Rattle.heap_plain.proofs.Listings.{linked_named, linked_at}
-use Rattle.heap_plain.proofs.Queueing.{named_append, named_in, named_length}
+use Rattle.heap_plain.proofs.Queueing.{named_append, named_in}
 use Rattle.heap_plain.proofs.SliceSteps.{filter_none}
 use Rattle.heap_plain.proofs.CommitSteps.{distinct_left, distinct_right, distinct_both}
 
@@ -48,6 +46,11 @@ filter_one n (v ∷ units) u d a e = go (begins_with n v) refl a (filter_one n u
     go true is (inr b) rest = absurd (out is u b e)
     go false is (inl same) rest = absurd (let wrong : begins_with n v ≡ true = ap (begins_with n) same ∙ e in cc)
     go false is (inr b) rest = rest b e
+
+pub distinct_unit : (units : List (List Name)) (u : List Name) → Distinct (members units) → Among units u → Distinct u
+distinct_unit [] u d a = absurd a
+distinct_unit (v ∷ units) u d (inl e) = subst (λ (x : List Name). Distinct x) e (distinct_left v (members units) d)
+distinct_unit (v ∷ units) u d (inr a) = distinct_unit units u (distinct_right v (members units) d) a
 
 -- ---- the order of destruction
 

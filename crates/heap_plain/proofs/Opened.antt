@@ -1,22 +1,23 @@
 -- The open frames and slices after one call.
-use Rattle.std.proofs.Common.{◌≡◌, ℕ, refl, ap, ◌∙◌, inl, inr, Bool, true, false, not, List, [], ◌∷◌, ◌++◌, map, filter, Result, Ok, Err}
-use Rattle.std.specs.List.{list_all}
+use Rattle.std.proofs.Common.{◌≡◌, ℕ, arith, cond, refl, ap, ◌∙◌, inl, inr, Bool, true, false, not, List, [], ◌∷◌, ◌++◌, map, filter, Result, Ok, Err}
+use Rattle.std.specs.List.{list_all, list_any}
 use Rattle.std.proofs.lemmas.Bool.{and_from}
-use Rattle.world_model.specs.Sizes.{Sizes}
+use Rattle.world_model.specs.Sizes.{Sizes, small}
 use Rattle.world_model.specs.NameLists.{same_pass}
 use Rattle.world_model.specs.World.{World}
 use Rattle.world_model.specs.State.{State, Marks}
 use Rattle.world_model.specs.Next.{next_world, next, run}
 use Rattle.world_model.specs.Histories.{after, state_of}
-use Rattle.world_model.specs.Calls.{by, Appends, CallOf, is_purge_part}
-use Rattle.world_model.specs.Engines.{act_of_create}
+use Rattle.world_model.specs.Calls.{by, Appends, CallOf, is_mark_note, is_purge_part}
+use Rattle.world_model.specs.Engines.{act_of_create, IsInFrame}
+use Rattle.world_model.proofs.Joins.{run-append, by-append}
 use Rattle.world_model.proofs.ListFacts.{and_true}
-use Rattle.heap_plain.specs.Types.{Name, Kind, Pass, Lane, Phase, Begin, Commit, Swept, Purged, CreateErr, Act, Entry}
+use Rattle.heap_plain.specs.Types.{Name, Kind, Pass, Lane, Marker, Phase, Begin, Marked, Commit, Swept, Purged, CreateErr, Act, Entry}
 use Rattle.heap_plain.specs.Types.act
 use Rattle.heap_plain.specs.Types.begin
 use Rattle.heap_plain.specs.Types.commit
 use Rattle.heap_plain.specs.Types.create
-use Rattle.heap_plain.proofs.WorldFacts.{state_more}
+use Rattle.heap_plain.proofs.WorldFacts.{state_more, same_pass_refl}
 
 -- the acts that open or close nothing
 abbrev pub is_inside : Act → Bool
@@ -96,3 +97,29 @@ parts_inside (a ∷ parts) last e h = let split = and_true (is_purge_part a) _ h
 pub same_by_purge : {z : Sizes} {old new : List Entry} {p : Pass} {budget : ℕ} {reply : Purged} → Appends z old new p (act.PurgeGc budget reply) → (after new).opened ≡ (after old).opened
 same_by_purge {old} {p} {budget} {reply} h =
     by_entries h ∙ run_opened (state_of old) p h.acts (ap (list_all is_inside) h.call.are ∙ parts_inside h.call.parts (act.PurgeGc budget reply) refl h.call.only)
+
+-- a slice closes what it has opened
+pub closed_by_slice : {z : Sizes} {old new : List Entry} {marker budget : ℕ} {reply : Marked} → Appends z old new (Marker marker) (act.Slice budget reply) → (after old).opened ≡ [] → (after new).opened ≡ []
+closed_by_slice {old = old} {marker = marker} {budget} {reply} h none =
+    by_entries h ∙ ap (λ (acts : List Act). (run (state_of old) (by (Marker marker) acts)).world.opened) h.call.are
+    ∙ ap (λ (es : List Entry). (run (state_of old) es).world.opened) (by-append (Marker marker) (act.SliceOpen ∷ h.call.notes) (act.Slice budget reply ∷ []))
+    ∙ ap (λ (s : State). s.world.opened) (run-append (state_of old) (by (Marker marker) (act.SliceOpen ∷ h.call.notes)) (by (Marker marker) (act.Slice budget reply ∷ [])))
+    ∙ ap (filter (λ q. not (same_pass (Marker marker) q))) (run_opened (next (state_of old) (record { pass = Marker marker; act = act.SliceOpen })) (Marker marker) h.call.notes (notes_inside h.call.notes h.call.only) ∙ ap (λ (passes : List Pass). Marker marker ∷ passes) none)
+    ∙ out (same_pass (Marker marker) (Marker marker)) (same_pass_refl (Marker marker))
+  where
+    note_inside : (a : Act) → is_mark_note a ≡ true → is_inside a ≡ true
+    note_inside (act.Kept of) h = refl
+    note_inside (act.Scanned of) h = refl
+    note_inside _ h = absurd cc
+
+    notes_inside : (notes : List Act) → list_all is_mark_note notes ≡ true → list_all is_inside notes ≡ true
+    notes_inside [] e = refl
+    notes_inside (a ∷ notes) e = let split = and_true (is_mark_note a) _ e in and_from _ _ (note_inside a split.0) (notes_inside notes split.1)
+
+    out : (b : Bool) → b ≡ true → cond (not b) (Marker marker ∷ []) [] ≡ []
+    out true e = refl
+    out false e = absurd cc
+
+-- where the frame of lane 0 alone is open
+pub in_frame : (h : List Entry) → (after h).opened ≡ Lane 0 ∷ [] → IsInFrame small h 0
+in_frame h e = record { in_range = omega arith; opened = ap (list_any (same_pass (Lane 0))) e }

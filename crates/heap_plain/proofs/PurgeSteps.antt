@@ -1,6 +1,6 @@
 -- The steps of destruction that begin and that ask.
-use Rattle.std.proofs.Common.{◌≡◌, ◌≢◌, ℕ, ◌+◌, ◌-◌, ◌<◌, ◌≤◌, ◌==◌, ◌||◌, ◌&&◌, ◌⊎◌, min, refl, sym, subst, subst₂, ap, ◌∙◌, inl, inr, zero, suc, arith, nat_lt, Bool, cond, if◌then◌else◌, true, false, not, List, [], ◌∷◌, ◌++◌, append-nil, append_assoc, length, map, find, take, drop, get_or, count_by, Option, Some, None, IsSome, option_and_then}
-use Rattle.std.specs.List.{list_any, list_all}
+use Rattle.std.proofs.Common.{◌≡◌, ◌≢◌, ℕ, ◌+◌, ◌-◌, ◌<◌, ◌≤◌, ◌==◌, ◌&&◌, ◌⊎◌, min, refl, sym, subst, subst₂, ap, ◌∙◌, inl, inr, zero, suc, arith, Bool, cond, if◌then◌else◌, true, false, not, List, [], ◌∷◌, ◌++◌, append-nil, append_assoc, length, map, find, take, drop, get_or, count_by, Option, Some, None}
+use Rattle.std.specs.List.{list_all}
 use Rattle.std.specs.Option.{option_map_or}
 use Rattle.std.proofs.Math.ListN.{set}
 use Rattle.std.proofs.Math.Logic.{dite}
@@ -9,33 +9,31 @@ use Rattle.std.proofs.lemmas.Bool.{eqb-true, eqb-false}
 use Rattle.std.proofs.lemmas.Bool.Decides.{nat_tests}
 use Rattle.std.proofs.lemmas.List.{length-set, get_or-set_same, get_or-set_other, get_or-take, length-take-le, take_more, take_more_set, drop_more, drop_all, drop-take, drop-set-lt}
 use Rattle.world_model.specs.Sizes.{Sizes, item_count}
-use Rattle.world_model.specs.NameLists.{same_name, has, members, all_different, first_member}
+use Rattle.world_model.specs.NameLists.{same_name, has, all_different, first_member}
 use Rattle.world_model.specs.World.{World, Removal, Removed as AtRemoved, Begun as AtBegun, Finished as AtFinished, is_at, polls_of, destruction_order}
 use Rattle.world_model.specs.State.{State, Marks, Slicing, Collecting}
-use Rattle.world_model.specs.Next.{next, at_stage, polled, run}
-use Rattle.world_model.specs.CollectorSteps.{to_release}
+use Rattle.world_model.specs.Next.{next, polled, run}
 use Rattle.world_model.specs.Histories.{MayBy, LegalFrom}
 use Rattle.world_model.specs.Calls.{by}
 use Rattle.world_model.proofs.ListFacts.{Among, among_filter_test}
 use Rattle.world_model.proofs.NameFacts.{same_name_true, same_name_refl}
 use Rattle.world_model.proofs.Rounds.{in_removals_at, one_stage, is_at-at_stage_same, is_at-at_stage_other, is_at-polled}
 use Rattle.world_model.proofs.Queues.{IsQueue, in_order, queue_begin, queue_begun, queue_ask, queue_refused, queue_agreed, queue_least}
-use Rattle.heap_plain.specs.Types.{Name, Phase, Idle, Marking, Gathering, Collector, Act, Entry}
+use Rattle.heap_plain.specs.Types.{Name, Phase, Idle, Gathering, Collector}
 use Rattle.heap_plain.specs.Types.act
 use Rattle.heap_plain.specs.declared.life.Life.{Life}
-use Rattle.heap_plain.specs.declared.life.Life.TheVariants.{Free, Live, Removed, Begun, Finished}
+use Rattle.heap_plain.specs.declared.life.Life.TheVariants.{Free, Begun, Finished}
 use Rattle.heap_plain.specs.Parts.{Parts, name_at, life_at, first_at, is_gone, stage_of}
 use Rattle.heap_plain.specs.Purging.{turned, next_poll, finished_unit, asked_acts}
 use Rattle.heap_plain.specs.Sections.{Distinct, AreLinked, RemovedShow, removal_at, GoneShow, LiesAt, OrderShows, QueueShows, AreNamed, ReadyAt, gone_world, todo_of, ring_of, at_end, still_there}
 use Rattle.heap_plain.specs.Plain.{Shows, calm}
-use Rattle.heap_plain.proofs.WorldFacts.{has_among, among_has, among_test}
-use Rattle.heap_plain.proofs.NewNames.{among_members, members_among}
-use Rattle.heap_plain.proofs.Queueing.{named_append, named_first}
+use Rattle.heap_plain.proofs.WorldFacts.{differs, has_among, among_has}
+use Rattle.heap_plain.proofs.NewNames.{among_members}
+use Rattle.heap_plain.proofs.Queueing.{named_append, named_first, named_none, all_begun}
 use Rattle.heap_plain.proofs.SliceSteps.{count_cons}
-use Rattle.heap_plain.proofs.CommitSteps.{distinct_left, distinct_right}
 use Rattle.heap_plain.proofs.SweepSteps.{distinct_different, name_among}
-use Rattle.heap_plain.proofs.Gathering.{same_unit, in_order_of}
-use Rattle.heap_plain.proofs.Restaging.{SameLives, lives_same, lives_set, gone_below, units_lives, roots_lives, held_lives, free_lives, changed, names_changed, count_changed, there_changed, removed_changed, gone_changed, gone_index}
+use Rattle.heap_plain.proofs.Gathering.{same_unit, distinct_unit, in_order_of}
+use Rattle.heap_plain.proofs.Restaging.{SameLives, lives_same, lives_set, gone_below, units_lives, roots_lives, held_lives, free_lives, changed, count_changed, there_changed, removed_changed, gone_changed, gone_index}
 
 -- ---- the vectors after a step
 
@@ -73,7 +71,7 @@ purged_shows k idle same removed gone counts order queue agreed steps = record {
   no_steps = steps;
 }
 
-count_alike : (p q : Name → Bool) (u : List Name) → ((n : Name) → Among u n → p n ≡ q n) → count_by p u ≡ count_by q u
+pub count_alike : (p q : Name → Bool) (u : List Name) → ((n : Name) → Among u n → p n ≡ q n) → count_by p u ≡ count_by q u
 count_alike p q [] h = refl
 count_alike p q (n ∷ u) h =
     let rest = count_alike p q u (λ m a. h m (inr a)) in
@@ -92,13 +90,6 @@ count_less p q n (m ∷ u) d a passed fails others = go a (count_less p q n u d.
 
     second : count_by q (m ∷ u) ≡ cond {A = ℕ} (q m) 1 0 + count_by q u
     second = count_cons (λ (x : Name). cond {A = ℕ} (q x) 1 0) m u
-
-    differs : (x y : Name) → (x ≡ y → ⊥) → same_name x y ≡ false
-    differs x y ne = test (same_name x y) refl
-      where
-        test : (b : Bool) → same_name x y ≡ b → b ≡ false
-        test true e = absurd (ne (same_name_true x y e))
-        test false e = refl
 
     go : (m ≡ n) ⊎ Among u n → (Among u n → p n ≡ true → q n ≡ false → ((x : Name) → same_name n x ≡ false → p x ≡ q x) → count_by q u + 1 ≡ count_by p u) → count_by q (m ∷ u) + 1 ≡ count_by p (m ∷ u)
     go (inl e) rest =
@@ -311,14 +302,7 @@ module _ (z : Sizes) (p : Parts) (s : State) (k : Shows z p (calm s)) (idle : p.
     turn = turns p.listed p.begun p.from p.kept k.order all q.ring_at
 
     no_todo : q.todo ≡ []
-    no_todo = go q.todo (subst (λ (at : List ℕ). AreNamed p.names at q.todo) past q.todo_at)
-      where
-        past : todo_of p.order p.listed p.begun ≡ []
-        past = drop_all p.begun (take p.listed p.order) (omega (arith, length-take-le p.listed p.order (omega (arith, k.order.len, k.order.listed_few))))
-
-        go : (todo : List Name) → AreNamed p.names [] todo → todo ≡ []
-        go [] h = refl
-        go (m ∷ todo) h = absurd h
+    no_todo = all_begun p.names p.order p.listed p.begun q.todo (omega (arith, k.order.len, k.order.listed_few)) all q.todo_at
 
     no_ready : q.ready ≡ None
     no_ready = go q.ready (subst (λ (done : Option ℕ). ReadyAt p.names done q.ready) none q.ready_at)
@@ -341,12 +325,8 @@ module _ (z : Sizes) (p : Parts) (s : State) (k : Shows z p (calm s)) (idle : p.
         (λ (e : from ≡ end).
         let past : drop from (take end p.order) ≡ [] = drop_all from (take end p.order) (omega (arith, length-take-le end p.order (omega (arith, turn.places.len, turn.places.listed_few)))) in
         let nothing : ring_of p.order end from kept ≡ [] = (λ t. past t ++ take (turn.empty e t) p.order) in
-        absurd (some_ring (go q.ring (subst (λ (at : List ℕ). AreNamed p.names at q.ring) nothing turn.named))))
+        absurd (some_ring (named_none p.names q.ring (subst (λ (at : List ℕ). AreNamed p.names at q.ring) nothing turn.named))))
         (λ (ne : from ≢ end). omega (arith, turn.places.from_few))
-      where
-        go : (ring : List Name) → AreNamed p.names [] ring → ring ≡ []
-        go [] h = refl
-        go (m ∷ ring) h = absurd h
 
     abbrev y : ℕ
     y = get_or p.order from 0
@@ -494,11 +474,6 @@ module _ (z : Sizes) (p : Parts) (s : State) (k : Shows z p (calm s)) (idle : p.
     as_before : (n : Name) → same_name m n ≡ false → at_end agreed_rs n ≡ at_end w.removals n
     as_before n e = is_at-at_stage_other (polled w0 m poll) m AtFinished AtFinished n e ∙ is_at-polled w0 m poll AtFinished n
 
-    distinct_unit : (units : List (List Name)) (u : List Name) → Distinct (members units) → Among units u → Distinct u
-    distinct_unit [] u d a = absurd a
-    distinct_unit (v ∷ units) u d (inl e) = subst (λ (x : List Name). Distinct x) e (distinct_left v (members units) d)
-    distinct_unit (v ∷ units) u d (inr a) = distinct_unit units u (distinct_right v (members units) d) a
-
     one_less : (u : List Name) → Among w.last_removed u → has u m ≡ true → count_by (λ n. not (at_end agreed_rs n)) u + 1 ≡ count_by (λ n. not (at_end w.removals n)) u
     one_less u a e = count_less (λ n. not (at_end w.removals n)) (λ n. not (at_end agreed_rs n)) m u (distinct_unit w.last_removed u k.gone.distinct a) (has_among u m e)
         (ap not unfinished) (ap not now_finished) (λ n o. ap not (sym (as_before n o)))
@@ -536,14 +511,10 @@ module _ (z : Sizes) (p : Parts) (s : State) (k : Shows z p (calm s)) (idle : p.
             get_or-set_other p.waiting head at (waits - 1) 0 ne ∙ t.waits ∙ count_alike _ _ u (λ n a. ap not (sym (as_before n (apart n a ne)))))
           where
             apart : (n : Name) → Among u n → at ≢ head → same_name m n ≡ false
-            apart n a ne = test (same_name m n) refl
-              where
-                test : (b : Bool) → same_name m n ≡ b → b ≡ false
-                test false e = refl
-                test true e =
-                    let j = t.inside n (among_has u n a) in
-                    let here = k.names.alone j.0 y m (j.1.name ∙ ap (λ (x : Name). Some x) (sym (same_name_true m n e))) asked_first.3 in
-                    absurd (ne (sym j.2 ∙ ap (first_at p.firsts) here))
+            apart n a ne = differs m n (λ e.
+                let j = t.inside n (among_has u n a) in
+                let here = k.names.alone j.0 y m (j.1.name ∙ ap (λ (x : Name). Some x) (sym e)) asked_first.3 in
+                ne (sym j.2 ∙ ap (first_at p.firsts) here))
 
     removed_agreed : RemovedShow z p.names agreed_ls ps p.left p.swept Idle agreed_rs w.found w.swept
     removed_agreed = removed_changed m (λ r. record r { stage = AtFinished }) (λ r. refl) y k.names removed_polled asked_first.3 lives_agreed refl

@@ -1,26 +1,24 @@
 -- A purge, step by step.
-use Rattle.std.proofs.Common.{unwrap_or, IsSome, is_some, subst₂, ◌≡◌, ◌≢◌, ◌↔◌, ℕ, ◌+◌, ◌-◌, ◌<◌, ◌≤◌, ◌^◌, ◌&&◌, ◌⊎◌, refl, sym, subst, ap, ◌∙◌, inl, inr, zero, suc, arith, Bool, cond, true, false, List, [], ◌∷◌, ◌++◌, append_assoc, append-nil, length, map, filter_map, drop, get_or, count_by, Option, Some, None}
+use Rattle.std.proofs.Common.{unwrap_or, IsSome, is_some, subst₂, ◌≡◌, ◌≢◌, ℕ, ◌+◌, ◌-◌, ◌<◌, ◌≤◌, ◌^◌, ◌&&◌, refl, sym, subst, ap, ◌∙◌, arith, Bool, cond, true, false, List, [], ◌∷◌, ◌++◌, append_assoc, append-nil, length, filter_map, get_or, count_by, Option, Some, None}
 use Rattle.std.specs.List.{list_all, AllByRecursion}
 use Rattle.std.proofs.Math.ListN.{set}
 use Rattle.std.proofs.Math.Seq.{drop-append_seam}
-use Rattle.std.proofs.lemmas.Bool.{and_from}
 use Rattle.std.proofs.lemmas.List.Sums.{sum_by-append}
 use Rattle.std.proofs.lemmas.List.Elements.{filter_map-append}
 use Rattle.world_model.specs.Sizes.{Sizes, item_count}
 use Rattle.world_model.specs.NameLists.{has}
 use Rattle.world_model.specs.World.{World, Removal}
 use Rattle.world_model.specs.State.{State, Frame, beginning}
-use Rattle.world_model.specs.Next.{next, run}
+use Rattle.world_model.specs.Next.{run}
 use Rattle.world_model.specs.Hooks.{ReadyTest, SameTest, AreCalledFor, AreCalled, Meets, MeetTest, call_of, class_of}
 use Rattle.world_model.specs.Calls.{by, Appends, is_purge_part, is_purge_step, PurgesAlone}
-use Rattle.world_model.specs.Histories.{Legal, LegalFrom, MayBy, after, state_of}
+use Rattle.world_model.specs.Histories.{LegalFrom, MayBy, after, state_of}
 use Rattle.world_model.proofs.Joins.{by-append, legal_join}
-use Rattle.world_model.proofs.ListFacts.{Among}
 use Rattle.heap_plain.specs.Types.{Name, Ref, ClassId, Kind, HookCall, Phase, Idle, Marking, Gathering, Collector, Purged, Act, Entry}
 use Rattle.heap_plain.specs.Types.act
 use Rattle.heap_plain.specs.Types.called
 use Rattle.heap_plain.specs.Types.purge
-use Rattle.heap_plain.specs.Parts.{Parts, Shown, Holds, name_at, name_of, class_at, kind_class, is_gone, first_at, life_at}
+use Rattle.heap_plain.specs.Parts.{Parts, Shown, Holds, name_at, name_of, class_at, kind_class, first_at}
 use Rattle.heap_plain.specs.declared.life.Life.TheVariants.{Begun, Finished}
 use Rattle.heap_plain.specs.Listing.{chained}
 use Rattle.heap_plain.specs.Purging.{Tells, turned, next_poll, finished_unit, asked_acts, asked_calls, Stocks, give_all, CanGive}

@@ -1,10 +1,11 @@
 -- The queue of destruction, by index.
-use Rattle.std.proofs.Common.{◌≡◌, ℕ, ◌+◌, refl, sym, ap, ◌∙◌, subst, inl, inr, zero, suc, List, [], ◌∷◌, ◌++◌, length, Option, Some, None}
+use Rattle.std.proofs.Common.{◌≡◌, ℕ, refl, sym, ap, ◌∙◌, inl, inr, suc, List, [], ◌∷◌, ◌++◌, length, Option, Some, None, ◌≤◌, arith, take, subst}
+use Rattle.std.proofs.lemmas.List.{drop_all, length-take-le}
 use Rattle.world_model.specs.World.{Removal}
 use Rattle.world_model.proofs.ListFacts.{Among}
 use Rattle.heap_plain.specs.Types.{Name}
 use Rattle.heap_plain.specs.Parts.{name_at}
-use Rattle.heap_plain.specs.Sections.{AreNamed, ReadyAt, QueueShows, GatherShows}
+use Rattle.heap_plain.specs.Sections.{todo_of, AreNamed, ReadyAt, QueueShows, GatherShows}
 
 -- ---- names at indexes
 
@@ -67,3 +68,13 @@ named_in names (j ∷ at) (n ∷ of) h i (inr a) = let r = named_in names at of 
 pub named_first : (names : List (Option Name)) (i : ℕ) (at : List ℕ) (of : List Name) → AreNamed names (i ∷ at) of → (n : Name) × (rest : List Name) × (of ≡ n ∷ rest) × (name_at names i ≡ Some n) × AreNamed names at rest
 named_first names i at [] h = absurd h
 named_first names i at (n ∷ of) h = (n, of, refl, h.0, h.1)
+
+-- at no index stands no name
+pub named_none : (names : List (Option Name)) (of : List Name) → AreNamed names [] of → of ≡ []
+named_none names [] h = refl
+named_none names (n ∷ of) h = absurd h
+
+-- where all are begun, none is to be begun
+pub all_begun : (names : List (Option Name)) (order : List ℕ) (listed begun : ℕ) (todo : List Name) → listed ≤ length order → listed ≤ begun → AreNamed names (todo_of order listed begun) todo → todo ≡ []
+all_begun names order listed begun todo room all h =
+    named_none names todo (subst (λ (at : List ℕ). AreNamed names at todo) (drop_all begun (take listed order) (omega (arith, all, length-take-le listed order room))) h)

@@ -1,38 +1,37 @@
 -- The step of destruction that releases a unit.
-use Rattle.std.proofs.Common.{◌≡◌, ◌≢◌, ℕ, ◌+◌, ◌-◌, ◌*◌, ◌<◌, ◌≤◌, ◌^◌, ◌==◌, ◌||◌, ◌&&◌, ◌⊎◌, refl, sym, subst, ap, ◌∙◌, inl, inr, zero, suc, arith, Bool, cond, true, false, not, List, [], ◌∷◌, ◌++◌, append-nil, length, map, filter, find, take, drop, get_or, count_by, Option, Some, None, option_and_then}
-use Rattle.std.specs.List.{list_any, list_all}
-use Rattle.std.proofs.lemmas.Bool.{and_from}
-use Rattle.std.proofs.lemmas.List.{length-take-le, length-map, drop_all}
+use Rattle.std.proofs.Common.{◌≡◌, ◌≢◌, ℕ, ◌+◌, ◌-◌, ◌<◌, ◌≤◌, ◌^◌, ◌==◌, ◌&&◌, ◌⊎◌, refl, sym, subst, ap, ◌∙◌, inl, inr, arith, Bool, cond, true, false, not, List, [], ◌∷◌, ◌++◌, append-nil, length, map, filter, find, get_or, count_by, Option, Some, None, option_and_then}
+use Rattle.std.specs.List.{list_all}
 use Rattle.std.proofs.lemmas.List.Sums.{length-filter}
 use Rattle.std.proofs.lemmas.List.Filters.{sum_by-filter_both}
 use Rattle.world_model.specs.Sizes.{Sizes, item_count}
-use Rattle.world_model.specs.NameLists.{same_name, has, members, begins_with, first_member, all_different}
+use Rattle.world_model.specs.NameLists.{same_name, has, members, begins_with, first_member}
 use Rattle.world_model.specs.World.{World, Removal, Begun as AtBegun, Finished as AtFinished, is_at, destruction_order}
-use Rattle.world_model.specs.State.{State, Frame}
+use Rattle.world_model.specs.State.{State}
 use Rattle.world_model.specs.Next.{next, released}
 use Rattle.world_model.specs.Histories.{MayBy}
 use Rattle.world_model.proofs.ListFacts.{Among, among_filter, among_filter_test, filter_among}
 use Rattle.world_model.proofs.NameFacts.{same_name_true, same_name_refl}
 use Rattle.world_model.proofs.Rounds.{in_removals_at, one_stage, is_at-released}
 use Rattle.world_model.proofs.Queues.{IsQueue, queue_begun, queue_release}
-use Rattle.heap_plain.specs.Types.{Name, Kind, Pass, Phase, Idle, Marking, Gathering, Collector, Act, Entry}
+use Rattle.heap_plain.specs.Types.{Name, Phase, Idle, Collector}
 use Rattle.heap_plain.specs.Types.act
 use Rattle.heap_plain.specs.declared.life.Life.{Life}
 use Rattle.heap_plain.specs.declared.life.Life.TheVariants.{Free, Live}
-use Rattle.heap_plain.specs.Parts.{Parts, name_at, life_at, first_at, next_at, is_gone, stage_of}
-use Rattle.heap_plain.specs.Listing.{chained, chain}
+use Rattle.heap_plain.specs.Parts.{Parts, name_at, life_at, is_gone, stage_of}
+use Rattle.heap_plain.specs.Listing.{chained}
 use Rattle.heap_plain.specs.Purging.{Stocks, give_all, CanGive}
-use Rattle.heap_plain.specs.Sections.{Distinct, NamesShow, UnitsShow, StandsAt, LivesAt, AreLinked, RootsShow, rooted_at, HeldShow, RemovedShow, removal_at, removal_of, GoneAt, GoneShow, LiesAt, ClassesShow, QueueShows, AreNamed, ReadyAt, FreeShows, gone_world, todo_of, ring_of, at_end, still_there}
+use Rattle.heap_plain.specs.Sections.{Distinct, NamesShow, UnitsShow, StandsAt, LivesAt, AreLinked, RootsShow, rooted_at, HeldShow, RemovedShow, removal_at, removal_of, GoneAt, GoneShow, LiesAt, ClassesShow, QueueShows, AreNamed, ReadyAt, FreeShows, gone_world, todo_of, at_end, still_there}
 use Rattle.heap_plain.specs.Plain.{Shows, calm}
 use Rattle.heap_plain.proofs.WorldFacts.{has_among, among_has, among_test, test_among, no_longer}
 use Rattle.heap_plain.proofs.Fillings.{Lists-same}
 use Rattle.heap_plain.proofs.Standing.{name_below, links_same}
-use Rattle.heap_plain.proofs.NewNames.{among_members, members_among}
 use Rattle.heap_plain.proofs.Listings.{linked_at}
-use Rattle.heap_plain.proofs.CommitSteps.{distinct_left, distinct_right, count_removals, names_back}
+use Rattle.heap_plain.proofs.CommitSteps.{count_removals}
 use Rattle.heap_plain.proofs.SliceSteps.{count_cons}
 use Rattle.heap_plain.proofs.SweepSteps.{distinct_different, name_among, among_name}
-use Rattle.heap_plain.proofs.Gathering.{first_among, filter_one, same_unit, in_order_of}
+use Rattle.heap_plain.proofs.Gathering.{first_among, filter_one, same_unit, distinct_unit, in_order_of}
+use Rattle.heap_plain.proofs.Queueing.{all_begun}
+use Rattle.heap_plain.proofs.PurgeSteps.{count_alike}
 use Rattle.heap_plain.proofs.Emptying.{Emptying, Emptied, Empties, empties}
 use Rattle.heap_plain.proofs.Restaging.{gone_index}
 
@@ -74,11 +73,6 @@ all_at p (m ∷ u) n h (inr a) = all_at p u n (second (p m) (list_all p u) h) a
 linked_first : (names : List (Option Name)) (links : List ℕ) (i : ℕ) (n : Name) (u : List Name) → AreLinked names links i u → begins_with n u ≡ true → name_at names i ≡ Some n
 linked_first names links i n [] l h = absurd cc
 linked_first names links i n (m ∷ u) l h = l.0 ∙ ap (λ (x : Name). Some x) (sym (same_name_true n m h))
-
-distinct_one : (units : List (List Name)) (u : List Name) → Distinct (members units) → Among units u → Distinct u
-distinct_one [] u d a = absurd a
-distinct_one (v ∷ units) u d (inl e) = subst (λ (x : List Name). Distinct x) e (distinct_left v (members units) d)
-distinct_one (v ∷ units) u d (inr a) = distinct_one units u (distinct_right v (members units) d) a
 
 -- what is left of the removed objects
 abbrev without_names : List Name → List Removal → List Removal
@@ -142,15 +136,6 @@ named_less names ns u keep [] (n ∷ of) out h = absurd h
 named_less names ns u keep (i ∷ at) [] out h = absurd h
 named_less names ns u keep (i ∷ at) (n ∷ of) out h = (keep i n h.0 (out n (inl refl)), named_less names ns u keep at of (λ m a. out m (inr a)) h.1)
 
-count_alike : (p q : Name → Bool) (u : List Name) → ((n : Name) → Among u n → p n ≡ q n) → count_by p u ≡ count_by q u
-count_alike p q [] h = refl
-count_alike p q (n ∷ u) h =
-    let rest = count_alike p q u (λ m a. h m (inr a)) in
-    let a = count_cons (λ (m : Name). cond {A = ℕ} (p m) 1 0) n u in
-    let b = count_cons (λ (m : Name). cond {A = ℕ} (q m) 1 0) n u in
-    let same : cond {A = ℕ} (p n) 1 0 ≡ cond {A = ℕ} (q n) 1 0 = ap (λ (x : Bool). cond {A = ℕ} x 1 0) (h n (inl refl)) in
-    omega arith
-
 -- ---- a unit is released
 
 module _ (z : Sizes) (p : Parts) (s : State) (k : Shows z p (calm s)) (idle : p.phase ≡ Idle) (all : p.listed ≤ p.begun) (head : ℕ) (ready : p.done ≡ Some head) (few_items : item_count z < 2 ^ 32) where
@@ -164,14 +149,7 @@ module _ (z : Sizes) (p : Parts) (s : State) (k : Shows z p (calm s)) (idle : p.
   q = k.queue idle
 
   no_todo : q.todo ≡ []
-  no_todo = go q.todo (subst (λ (at : List ℕ). AreNamed p.names at q.todo) past q.todo_at)
-    where
-      past : todo_of p.order p.listed p.begun ≡ []
-      past = drop_all p.begun (take p.listed p.order) (omega (arith, all, length-take-le p.listed p.order (omega (arith, k.order.len, k.order.listed_few))))
-
-      go : (todo : List Name) → AreNamed p.names [] todo → todo ≡ []
-      go [] h = refl
-      go (m ∷ todo) h = absurd h
+  no_todo = all_begun p.names p.order p.listed p.begun q.todo (omega (arith, k.order.len, k.order.listed_few)) all q.todo_at
 
   pub first : (n : Name) × (q.ready ≡ Some n) × (name_at p.names head ≡ Some n)
   first = go q.ready (subst (λ (done : Option ℕ). ReadyAt p.names done q.ready) ready q.ready_at)
@@ -211,7 +189,7 @@ module _ (z : Sizes) (p : Parts) (s : State) (k : Shows z p (calm s)) (idle : p.
       subst (λ (i : ℕ). LiesAt p.names p.firsts p.sizes p.next p.waiting p.lives w.removals w.last_removed i u) same r.1
 
   distinct_u : Distinct u
-  distinct_u = distinct_one w.last_removed u k.gone.distinct in_units
+  distinct_u = distinct_unit w.last_removed u k.gone.distinct in_units
 
   pub size_is : get_or p.sizes head 0 ≡ length u
   size_is = lies.size

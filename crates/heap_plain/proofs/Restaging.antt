@@ -1,23 +1,22 @@
 -- Removed objects that come to another stage, or have another number of polls.
-use Rattle.std.proofs.Common.{◌≡◌, ◌≢◌, ℕ, ◌+◌, ◌-◌, ◌<◌, ◌≤◌, ◌==◌, ◌||◌, ◌&&◌, ◌⊎◌, refl, sym, subst, ap, ◌∙◌, inl, inr, zero, suc, arith, Bool, cond, if◌then◌else◌, true, false, not, List, [], ◌∷◌, ◌++◌, length, map, get_or, count_by, Option, Some, None}
-use Rattle.std.specs.List.{list_any}
+use Rattle.std.proofs.Common.{◌≡◌, ◌≢◌, ℕ, ◌<◌, ◌==◌, ◌||◌, refl, sym, subst, ap, ◌∙◌, inl, inr, arith, Bool, cond, if◌then◌else◌, true, false, not, List, [], ◌∷◌, length, map, get_or, count_by, Option, Some}
 use Rattle.std.proofs.Math.ListN.{set}
 use Rattle.std.proofs.Math.Logic.{dite}
 use Rattle.std.proofs.Math.Decide.{ℕ_discrete}
 use Rattle.std.proofs.lemmas.Bool.{cond_both}
 use Rattle.std.proofs.lemmas.List.{length-map, length-set, get_or-set_same, get_or-set_other}
-use Rattle.world_model.specs.Sizes.{Sizes, item_count}
-use Rattle.world_model.specs.NameLists.{same_name, has, members}
-use Rattle.world_model.specs.World.{World, Removal}
+use Rattle.world_model.specs.Sizes.{Sizes}
+use Rattle.world_model.specs.NameLists.{same_name}
+use Rattle.world_model.specs.World.{Removal}
 use Rattle.world_model.specs.State.{Frame}
 use Rattle.world_model.proofs.ListFacts.{Among}
 use Rattle.world_model.proofs.NameFacts.{same_name_true, same_name_refl}
-use Rattle.heap_plain.specs.Types.{Name, Kind, Pass, Phase, Idle, Marking, Gathering}
+use Rattle.heap_plain.specs.Types.{Name, Kind, Pass, Phase, Idle}
 use Rattle.heap_plain.specs.declared.life.Life.{Life}
-use Rattle.heap_plain.specs.declared.life.Life.TheVariants.{Free, Live, Removed, Begun, Finished}
-use Rattle.heap_plain.specs.Parts.{name_at, life_at, first_at, is_gone, stage_of}
-use Rattle.heap_plain.specs.Sections.{Distinct, NamesShow, UnitsShow, StandsAt, LivesAt, RootsShow, HeldShow, RemovedShow, removal_at, GoneAt, GoneShow, LiesAt, FreeShows, free_at, spare_at, at_end, still_there}
-use Rattle.heap_plain.proofs.WorldFacts.{test_among, among_test}
+use Rattle.heap_plain.specs.declared.life.Life.TheVariants.{Free, Live}
+use Rattle.heap_plain.specs.Parts.{name_at, life_at, is_gone, stage_of}
+use Rattle.heap_plain.specs.Sections.{Distinct, NamesShow, UnitsShow, StandsAt, LivesAt, RootsShow, HeldShow, RemovedShow, removal_at, GoneShow, LiesAt, FreeShows, free_at, at_end, still_there}
+use Rattle.heap_plain.proofs.WorldFacts.{differs, test_among}
 use Rattle.heap_plain.proofs.Standing.{life_below}
 use Rattle.heap_plain.proofs.SliceSteps.{count_cons}
 
@@ -189,19 +188,12 @@ module _ (n : Name) (f : Removal → Removal) (keeps : (r : Removal) → (f r).n
           ∙ (λ t. f (removal_at lives polls (here t) (sym name t))) ∙ now ∙ (λ t. removal_at ls ps (sym here t) (name t)) in
           subst (λ (r : Removal). Among (changed n f removals) r) new moved)
           (λ (ne : i ≢ x).
-          let is : same_name n m ≡ false = other_name m (λ e. ne (ns.alone i x n (there ∙ ap (λ (y : Name). Some y) (sym e)) at)) in
+          let is : same_name n m ≡ false = differs n m (λ e. ne (ns.alone i x n (there ∙ ap (λ (y : Name). Some y) (sym e)) at)) in
           let o = others i ne in
           let new : one (removal_at lives polls i m) ≡ removal_at ls ps i m =
           ap (λ (b : Bool). cond b (f (removal_at lives polls i m)) (removal_at lives polls i m)) is
           ∙ (λ t. record { name = m; stage = stage_of (sym o.0 t); polls = sym o.1 t }) in
           subst (λ (r : Removal). Among (changed n f removals) r) new moved)
-        where
-          other_name : (m : Name) → (n ≡ m → ⊥) → same_name n m ≡ false
-          other_name m ne = go (same_name n m) refl
-            where
-              go : (b : Bool) → same_name n m ≡ b → b ≡ false
-              go true e = absurd (ne (same_name_true n m e))
-              go false e = refl
 
 -- ---- removed units
 

@@ -29,7 +29,6 @@ use Rattle.heap_plain.specs.Plain.{Shows, IsPlain}
 use Rattle.heap_plain.proofs.WorldFacts.{has_among, among_has, among_left, among_right, among_test, no_longer}
 use Rattle.heap_plain.proofs.Entries.{plain_more, holds_more}
 use Rattle.heap_plain.proofs.Standing.{life_below}
-use Rattle.heap_plain.proofs.NewNames.{distinct_append}
 use Rattle.heap_plain.proofs.MarkSteps.{distinct_snoc}
 use Rattle.heap_plain.proofs.Finding.{removed_append}
 use Rattle.heap_plain.proofs.Queueing.{named_append}

@@ -28,6 +28,15 @@ at_set P f k i v same other = go (i == k) refl
 pub set_at_other : {A : Type 0} (f : ℕ → A) (k i : ℕ) (v : A) → i ≢ k → set_at f k v i ≡ f i
 set_at_other f k i v ne = let t : (i == k) ≡ false = ne_eqb i k ne in rw t refl
 
+-- ---- names
+
+pub differs : (x y : Name) → (x ≡ y → ⊥) → same_name x y ≡ false
+differs x y ne = go (same_name x y) refl
+  where
+    go : (b : Bool) → same_name x y ≡ b → b ≡ false
+    go true e = absurd (ne (same_name_true x y e))
+    go false e = refl
+
 -- ---- passes
 
 pub same_pass_true : (p q : Pass) → same_pass p q ≡ true → p ≡ q

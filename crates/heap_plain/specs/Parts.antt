@@ -8,7 +8,7 @@ use Rattle.world_model.specs.World.{Stage}
 use Rattle.world_model.specs.World as world
 use Rattle.world_model.specs.State as model
 use Rattle.heap_plain.specs.declared.life.Life.{Life}
-use Rattle.heap_plain.specs.declared.life.Life.TheVariants.{Free, Live, Removed, Begun, Finished}
+use Rattle.heap_plain.specs.declared.life.Life.TheVariants.{Free, Removed, Begun, Finished}
 
 -- ---- what contracts see
 

@@ -9,7 +9,7 @@ use Rattle.world_model.specs.State.{Frame}
 use Rattle.world_model.proofs.ListFacts.{Among}
 use Rattle.world_model.proofs.Queues.{IsQueue}
 use Rattle.heap_plain.specs.declared.life.Life.{Life}
-use Rattle.heap_plain.specs.declared.life.Life.TheVariants.{Free, Live, Removed}
+use Rattle.heap_plain.specs.declared.life.Life.TheVariants.{Free, Live}
 use Rattle.heap_plain.specs.Parts.{Lists, name_at, life_at, first_at, next_at, class_at, kind_class, is_gone, stage_of}
 use Rattle.heap_plain.specs.Sweeping.{removed_names}
 

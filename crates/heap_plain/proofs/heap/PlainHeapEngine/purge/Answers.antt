@@ -1,9 +1,9 @@
-use Rattle.std.proofs.Common.{◌≡◌, ◌<◌, ◌≤◌, ◌^◌, refl, sym, ap, ◌∙◌, arith, get_or, length, Some, None, List, ◌∷◌, []}
+use Rattle.std.proofs.Common.{◌≡◌, ◌<◌, ◌^◌, refl, arith, get_or, length}
 use Rattle.std.proofs.lemmas.List.{get_or_read}
 use Rattle.world_model.specs.Sizes.{item_count}
 use Rattle.world_model.specs.Histories.{after}
 use Rattle.heap_plain.proofs.WorldFacts.{appends_one}
-use Rattle.heap_plain.proofs.Purges.{purge_starts, begin_named, begin_below, purge_begins, ask_from, ask_kept, ask_named, ask_below, ask_head, ask_waits, purge_refused, purge_agreed, release_below, release_named, release_few, release_chain, release_can, purge_released, purge_ends, purge_appends, purge_calls, purge_tested, purge_held, waits_plain, waits_alone, waits_calls, waits_tested, waits_held}
+use Rattle.heap_plain.proofs.Purges.{purge_starts, begin_named, begin_below, purge_begins, ask_from, ask_kept, ask_named, ask_below, ask_head, ask_waits, purge_refused, purge_agreed, release_below, release_named, release_few, release_chain, release_can, purge_released, purge_ends, purge_appends, purge_calls, purge_tested, purge_held, waits_plain, waits_alone, waits_calls, waits_held}
 use Rattle.heap_plain.proofs.heap.PlainHeapEngine.purge.Given.{Over}
 use Rattle.heap_plain.proofs.heap.PlainHeapEngine.purge.Goals.{then-loop-steps-test+else-self-gt0, else-loop-steps-test}
 use Rattle.heap_plain.proofs.heap.PlainHeapEngine.purge.Goals as goal
