@@ -1,11 +1,12 @@
-.PHONY: play try test
+.PHONY: play try examples test
 
 SCRIPT = examples/first.script
+WORDS =
 PROGRAM = crates/worldrun/out/worldrun
 
-# Plays a script on the proved program.
+# Plays a script on the proved program, with the options in WORDS.
 play: $(PROGRAM)
-	@$(PROGRAM) play < $(SCRIPT)
+	@$(PROGRAM) play $(WORDS) < $(SCRIPT)
 
 # Proves every crate, from the lowest on, and builds the program.
 $(PROGRAM): crates.txt $(shell find crates -path '*/out' -prune -o -name '*.rt' -print -o -name '*.antt' -print)
@@ -22,7 +23,11 @@ $(PROGRAM): crates.txt $(shell find crates -path '*/out' -prune -o -name '*.rt' 
 # Plays a script at once, on an unproved build.
 try:
 	@echo 'This is an unproved build.' >&2
-	@cd crates/worldrun && rt try -- play < $(abspath $(SCRIPT))
+	@cd crates/worldrun && rt try -- play $(WORDS) < $(abspath $(SCRIPT))
+
+# Plays the scripts of examples/ in slices of several sizes, and compares what they write.
+examples: $(PROGRAM)
+	.ci/examples
 
 # Proves everything, tries the must-fail edits and runs the tests: the gate, as it runs before a change lands.
 test:

@@ -19,7 +19,7 @@ pub trait Sink {
     /// The bytes that it holds, where it tells them.
     ghost held: { Self → Option (List ℕ) };
 
-    /// How often it has failed, up to the greatest u64. It never falls.
+    /// How often it has failed, up to the greatest u64.
     ghost faults: { Self → ℕ };
 
     /// Appends the first of `bytes`, which are not empty, and answers how many it took. After an

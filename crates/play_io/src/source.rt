@@ -13,7 +13,7 @@ pub trait Source {
     /// The bytes that are left, where it tells them.
     ghost left: { Self → Option (List ℕ) };
 
-    /// How often it has failed, up to the greatest u64. It never falls.
+    /// How often it has failed, up to the greatest u64.
     ghost faults: { Self → ℕ };
 
     /// Fills the front of `buf`, which is not empty, with the next bytes, and answers how many

@@ -1,5 +1,5 @@
 -- Slices and sweeps, one more at a time.
-use Rattle.std.proofs.Common.{◌≡◌, ◌≢◌, ℕ, ◌+◌, ◌-◌, ◌*◌, ◌<◌, ◌≤◌, List, [], ◌∷◌, ◌++◌, append_assoc, append-nil, flat_map, map, length, length-append, IsTrue, refl, sym, ap, ◌∙◌, subst, arith, ◌⊎◌, inl, inr}
+use Rattle.std.proofs.Common.{min, ◌≡◌, ◌≢◌, ℕ, ◌+◌, ◌-◌, ◌*◌, ◌<◌, ◌≤◌, List, [], ◌∷◌, ◌++◌, append_assoc, append-nil, flat_map, map, length, length-append, IsTrue, refl, sym, ap, ◌∙◌, subst, arith, ◌⊎◌, inl, inr}
 use Rattle.std.specs.Prelude.{Result, Ok, Err, IfOk, OnErr}
 use Rattle.std.proofs.lemmas.Grind.{flat_map-append}
 use Rattle.world_model.specs.Sizes.{Sizes, item_count}
@@ -21,7 +21,7 @@ use Rattle.world_play.specs.Types.cmd
 use Rattle.world_play.specs.Types.act
 use Rattle.world_play.specs.Types.stop
 use Rattle.world_play.specs.Types.sweep
-use Rattle.world_play.specs.Plays.{Bindings, SlicesSpent, SweepsMore, SweepsAll, PurgesAll, first_begin, full_reply}
+use Rattle.world_play.specs.Plays.{Bindings, SlicesSpent, SweepsMore, PurgesAll, first_begin, full_reply}
 use Rattle.world_play.specs.Turns.{Broken}
 use Rattle.world_play.specs.Stages.{IsMarking, Marks, MarksOn, IsGathering, Finds, FindsOn, FindsSome, GoesOn, GoesOnSome, Collects}
 
@@ -137,12 +137,12 @@ swept_names z old mid new budget reply found names was h =
     ap (λ (s : State). s.world.found) (state_after_one z mid new Collector (act.Sweep budget reply names) h h.call)
     ∙ ap (λ (xs : List Name). xs ++ names) was ∙ append_assoc (after old).found found names
 
--- a sweep that stopped for its budget, or because there was no more room than that
+-- a sweep that stopped for its budget, or because there was no more room than that, or than for all items
 pub finds_more : (z : Sizes) (old mid new : List Entry) (budget : ℕ) (reply : Swept) (found names : List Name) → FindsOn z old mid budget found → Appends z mid new Collector (act.Sweep budget reply names) → reply.stop ≡ sweep.More
-    → ((reply.looked ≡ budget) ⊎ (reply.found ≡ budget)) → FindsOn z old new budget (found ++ names)
+    → ((reply.looked ≡ budget) ⊎ (reply.found ≡ min budget (item_count z))) → FindsOn z old new budget (found ++ names)
 finds_more z old mid new budget reply found names on h more why =
     let world = swept_world z mid new budget reply names h more in
-    let looked : reply.looked ≡ budget = whole world.3 world.4 world.5 why in
+    let looked : reply.looked ≡ budget = whole world.2 world.3 world.4 world.5 why in
     record {
       sweeps = on.sweeps ++ act.Sweep budget reply names ∷ [];
       swept = found_more budget on.sweeps names reply on.swept more looked;
@@ -153,21 +153,21 @@ finds_more z old mid new budget reply found names on h more why =
       now = record { legal = h.legal; alone = slices_closed z mid new Collector (act.Sweep budget reply names) h on.now.alone; gathering = world.0 ∙ on.now.gathering };
     }
   where
-    whole : reply.found ≡ length names → length names ≤ reply.looked → reply.looked ≤ budget → ((reply.looked ≡ budget) ⊎ (reply.found ≡ budget)) → reply.looked ≡ budget
-    whole a b c (inl e) = e
-    whole a b c (inr e) = omega arith
+    whole : (after mid).swept + reply.looked < item_count z → reply.found ≡ length names → length names ≤ reply.looked → reply.looked ≤ budget → ((reply.looked ≡ budget) ⊎ (reply.found ≡ min budget (item_count z))) → reply.looked ≡ budget
+    whole few a b c (inl e) = e
+    whole few a b c (inr e) = omega (arith, few, a, b, c, e)
 
 -- and leaves fewer items to look at
 pub finds_less : (z : Sizes) (mid new : List Entry) (budget : ℕ) (reply : Swept) (names : List Name) → Appends z mid new Collector (act.Sweep budget reply names) → reply.stop ≡ sweep.More
-    → ((reply.looked ≡ budget) ⊎ (reply.found ≡ budget)) → 1 ≤ budget → item_count z - (after new).swept < item_count z - (after mid).swept
+    → ((reply.looked ≡ budget) ⊎ (reply.found ≡ min budget (item_count z))) → 1 ≤ budget → item_count z - (after new).swept < item_count z - (after mid).swept
 finds_less z mid new budget reply names h more why some =
     let world = swept_world z mid new budget reply names h more in
-    let looked : 1 ≤ reply.looked = whole world.3 world.4 why in
+    let looked : 1 ≤ reply.looked = whole world.2 world.3 world.4 why in
     rw world.1 (omega (arith, looked, world.2))
   where
-    whole : reply.found ≡ length names → length names ≤ reply.looked → ((reply.looked ≡ budget) ⊎ (reply.found ≡ budget)) → 1 ≤ reply.looked
-    whole a b (inl e) = omega arith
-    whole a b (inr e) = omega arith
+    whole : (after mid).swept + reply.looked < item_count z → reply.found ≡ length names → length names ≤ reply.looked → ((reply.looked ≡ budget) ⊎ (reply.found ≡ min budget (item_count z))) → 1 ≤ reply.looked
+    whole few a b (inl e) = omega arith
+    whole few a b (inr e) = omega (arith, few, a, b, e)
 
 -- while a collection gathers a sweep that does not stop for its budget has settled
 has_settled : (z : Sizes) (s : State) (budget : ℕ) (reply : Swept) (names : List Name) (why : SweepStop) → s.world.phase ≡ Gathering → SweepMay z s budget reply names why → why ≢ sweep.More → why ≡ sweep.Settled
@@ -195,7 +195,7 @@ finds_all z old mid new budget reply found names on h other =
 
 -- after one more sweep some sweeps were made, or all
 pub finds_some : (z : Sizes) (old mid new : List Entry) (budget : ℕ) (reply : Swept) (found names : List Name) → FindsOn z old mid budget found → Appends z mid new Collector (act.Sweep budget reply names)
-    → (reply.stop ≡ sweep.More → (reply.looked ≡ budget) ⊎ (reply.found ≡ budget)) → FindsSome z old new budget
+    → (reply.stop ≡ sweep.More → (reply.looked ≡ budget) ⊎ (reply.found ≡ min budget (item_count z))) → FindsSome z old new budget
 finds_some z old mid new budget reply found names on h why = go reply.stop refl
   where
     all : reply.stop ≢ sweep.More → FindsSome z old new budget

@@ -1,6 +1,6 @@
 -- How destruction ends: each step takes something from what is left to do.
-use Rattle.std.proofs.Common.{◌≡◌, ◌≢◌, ℕ, zero, suc, ◌+◌, ◌-◌, ◌*◌, ◌<◌, ◌≤◌, min, refl, sym, subst, ap, ◌∙◌, inl, inr, arith, Bool, cond, true, false, not, ◌&&◌, ◌||◌, List, [], ◌∷◌, ◌++◌, map, length, Option, Some, None, ◌⊎◌, filter}
-use Rattle.std.specs.Prelude.{IsTrue, nat_lt}
+use Rattle.std.proofs.Common.{◌≡◌, ℕ, ◌+◌, ◌-◌, ◌*◌, ◌<◌, ◌≤◌, min, refl, sym, subst, ap, ◌∙◌, inl, inr, arith, Bool, cond, true, false, not, ◌&&◌, ◌||◌, List, [], ◌∷◌, ◌++◌, map, length, Option, Some, None, ◌⊎◌, filter}
+use Rattle.std.specs.Prelude.{nat_lt}
 use Rattle.std.specs.List.{count_by}
 use Rattle.std.specs.List.{list_any, list_all, flat_map, find, AllByRecursion}
 use Rattle.std.specs.Option.{option_and_then}
@@ -9,7 +9,7 @@ use Rattle.world_model.specs.Sizes.{Sizes}
 use Rattle.world_model.specs.NameLists.{same_name, has, all_different, members, begins_with, first_member}
 use Rattle.world_model.specs.World.{World, Stage, Removal, Removed, Begun, Finished, has_stage, is_at, destruction_order, left_in, left_of}
 use Rattle.world_model.specs.State.{State}
-use Rattle.world_model.specs.CollectorSteps.{Finishes, to_release}
+use Rattle.world_model.specs.CollectorSteps.{to_release}
 use Rattle.world_model.specs.Next.{next, run}
 use Rattle.world_model.specs.Histories.{StepOfCollector, LegalFrom}
 use Rattle.world_model.specs.Calls.{by, is_purge_part, is_purge_step, PurgesAlone}
@@ -20,7 +20,7 @@ use Rattle.world_play.specs.Types.{Name, Phase, Idle, Purged, Collector, Act, En
 use Rattle.world_play.specs.Types.act
 use Rattle.world_play.specs.Types.purge
 use Rattle.world_model.specs.Hooks.{class_of}
-use Rattle.world_play.specs.Plays.{is_ready, AnswersBy, PurgesAll}
+use Rattle.world_play.specs.Plays.{AnswersBy, PurgesAll}
 use Rattle.world_play.proofs.Different.{has_append}
 use Rattle.std.proofs.lemmas.List.Sums.{sum_by-cons}
 

@@ -2,7 +2,7 @@
 use Rattle.std.proofs.Common.{◌≡◌, ℕ, Bool, true, false, ◌&&◌, List, [], ◌∷◌, ◌++◌, length, take, drop, ◌⊎◌, inl, inr, refl, sym, ap, subst, ◌∙◌, Option, Some, None, Result, Ok, Err, arith}
 use Rattle.std.proofs.lemmas.Bool.Decides.{nat_tests}
 use Rattle.std.proofs.lemmas.List.{length-take, take_all, drop_all}
-use Rattle.std.specs.Prelude.{nat_lt, slice_index, slice_index_or, IfSome}
+use Rattle.std.specs.Prelude.{nat_lt, slice_index, slice_index_or, IfSome, option_map}
 use Rattle.std.specs.List.{AllByRecursion}
 use Rattle.std.specs.Result.{result_ok, result_err}
 use Rattle.level_script.specs.Reading.{outcome_of, script_of, fault_of, fault_at, Reads}
@@ -14,7 +14,10 @@ use Rattle.level_script.specs.declared.limits.Limits.{Limits}
 use Rattle.level_script.specs.declared.script.Script.{Script}
 use Rattle.world_play.specs.Streams.{Read, Gained, line_feeds}
 use Rattle.play_io.specs.Faults.{Rose}
-use Rattle.world_model.specs.Sizes.{level}
+use Rattle.world_model.specs.Sizes.{Sizes}
+use Rattle.world_play.specs.Words.{sizes_of}
+use Rattle.world_play.specs.declared.words.Words.{Words}
+use Rattle.world_play.specs.declared.words.ShapeName.{ShapeName}
 use Rattle.world_model.specs.State.{State, beginning}
 use Rattle.world_model.specs.Next.{run}
 use Rattle.world_model.specs.Histories.{Legal}
@@ -30,7 +33,7 @@ use Rattle.level_script.specs.Frames.{are_framed, IsPlayable}
 use Rattle.world_model.proofs.ListFacts.{and_true}
 use Rattle.world_play.specs.Laws.{HasClass, OneText}
 use Rattle.world_play.specs.Turns.{Stops, Played, Stopped}
-use Rattle.world_play.specs.Ends.{level_limits, history_of, IsScript, HasFault, WasTaken, Refuses, WritesFault, HasRun, WasPlayed, OnDone, OnStopped, SaysScript, Headline, EndsEarly, WritesOutcome, CountsLines, TellsScript}
+use Rattle.world_play.specs.Ends.{limits_in, history_of, IsScript, HasFault, WasTaken, Refuses, WritesFault, HasRun, WasPlayed, OnDone, OnStopped, SaysScript, Headline, EndsEarly, WritesOutcome, CountsLines, TellsScript}
 use Rattle.world_play.specs.declared.status.Status.{Status}
 use Rattle.world_play.specs.declared.status.Status.TheVariants as status
 use Rattle.world_play.specs.declared.run.Run.{Run}
@@ -68,21 +71,21 @@ nothing_left xs script limits e = go (nat_lt 16777216 (length xs)) refl
     go true t = absurd (let long = long_script xs limits t in cc)
     go false t = drop_all 16777217 xs (grind (arith, nat_tests, t))
 
-pub read_script_of : (left now : Option (List ℕ)) (v : List ℕ) (script : Script) → Read left now 16777216 v → script_of v level_limits ≡ Some script → IsScript left script
-read_script_of None now v script r e = tt
-read_script_of (Some xs) now v script (is, rest) e = go (read_of xs v level_limits is)
+pub read_script_of : (limits : Limits) (left now : Option (List ℕ)) (v : List ℕ) (script : Script) → Read left now 16777216 v → script_of v limits ≡ Some script → IsScript limits left script
+read_script_of limits None now v script r e = tt
+read_script_of limits (Some xs) now v script (is, rest) e = go (read_of xs v limits is)
   where
-    go : (v ≡ xs) ⊎ ((nat_lt 16777216 (length v) ≡ true) × (nat_lt 16777216 (length xs) ≡ true)) → script_of xs level_limits ≡ Some script
-    go (inl same) = ap (λ (b : List ℕ). script_of b level_limits) (sym same) ∙ e
-    go (inr (long, longer)) = absurd (let none = long_script v level_limits long in cc)
+    go : (v ≡ xs) ⊎ ((nat_lt 16777216 (length v) ≡ true) × (nat_lt 16777216 (length xs) ≡ true)) → script_of xs limits ≡ Some script
+    go (inl same) = ap (λ (b : List ℕ). script_of b limits) (sym same) ∙ e
+    go (inr (long, longer)) = absurd (let none = long_script v limits long in cc)
 
-pub read_fault_of : (left now : Option (List ℕ)) (v : List ℕ) (fault : ScriptErr) → Read left now 16777216 v → fault_of v level_limits ≡ Some fault → HasFault left fault
-read_fault_of None now v fault r e = tt
-read_fault_of (Some xs) now v fault (is, rest) e = go (read_of xs v level_limits is)
+pub read_fault_of : (limits : Limits) (left now : Option (List ℕ)) (v : List ℕ) (fault : ScriptErr) → Read left now 16777216 v → fault_of v limits ≡ Some fault → HasFault limits left fault
+read_fault_of limits None now v fault r e = tt
+read_fault_of limits (Some xs) now v fault (is, rest) e = go (read_of xs v limits is)
   where
-    go : (v ≡ xs) ⊎ ((nat_lt 16777216 (length v) ≡ true) × (nat_lt 16777216 (length xs) ≡ true)) → fault_of xs level_limits ≡ Some fault
-    go (inl same) = ap (λ (b : List ℕ). fault_of b level_limits) (sym same) ∙ e
-    go (inr (long, longer)) = long_fault xs level_limits longer ∙ sym (long_fault v level_limits long) ∙ e
+    go : (v ≡ xs) ⊎ ((nat_lt 16777216 (length v) ≡ true) × (nat_lt 16777216 (length xs) ≡ true)) → fault_of xs limits ≡ Some fault
+    go (inl same) = ap (λ (b : List ℕ). fault_of b limits) (sym same) ∙ e
+    go (inr (long, longer)) = long_fault xs limits longer ∙ sym (long_fault v limits long) ∙ e
 
 pub taken_of : (left now : Option (List ℕ)) (v : List ℕ) → Read left now 16777216 v → WasTaken left now
 taken_of None now v r = tt
@@ -128,39 +131,44 @@ counts_gained (Some xs) has bytes count put e = (bytes, put, e)
 counts_none : (had has : Option (List ℕ)) (count : ℕ) → has ≡ had → count ≡ 0 → CountsLines had has count
 counts_none had has count same none = counts_gained had has [] count (subst (λ (now : Option (List ℕ)). Gained had now []) (sym same) (gained_none had)) none
 
-counts_all : (classes : ℕ) (lines : List Line) (history : List Entry) (had has : Option (List ℕ)) (count : ℕ) → Played level 1000 classes lines history had has → count ≡ length lines → CountsLines had has count
-counts_all classes lines history had has count h number = counts_gained had has (text beginning lines h.pieces) count h.put (number ∙ sym (text_feeds 1000 classes beginning no_bindings h.last lines h.pieces h.plays))
+counts_all : (z : Sizes) (budget classes : ℕ) (lines : List Line) (history : List Entry) (had has : Option (List ℕ)) (count : ℕ) → Played z budget classes lines history had has → count ≡ length lines → CountsLines had has count
+counts_all z budget classes lines history had has count h number =
+    counts_gained had has (text beginning lines h.pieces) count h.put (number ∙ sym (text_feeds budget classes beginning no_bindings h.last lines h.pieces h.plays))
 
-counts_some : (classes : ℕ) (lines : List Line) (history : List Entry) (had has : Option (List ℕ)) (count : ℕ) → Stopped level 1000 classes lines history had has count → CountsLines had has count
-counts_some classes lines history had has count h =
-    let whole : line_feeds (text beginning h.whole h.pieces) ≡ length h.whole = text_feeds 1000 classes beginning no_bindings h.names h.whole h.pieces h.plays in
-    let rest : line_feeds h.some ≡ 0 = stops_plain 1000 classes _ h.names h.rest h.part h.some h.stops in
+counts_some : (z : Sizes) (budget classes : ℕ) (lines : List Line) (history : List Entry) (had has : Option (List ℕ)) (count : ℕ) → Stopped z budget classes lines history had has count → CountsLines had has count
+counts_some z budget classes lines history had has count h =
+    let whole : line_feeds (text beginning h.whole h.pieces) ≡ length h.whole = text_feeds budget classes beginning no_bindings h.names h.whole h.pieces h.plays in
+    let rest : line_feeds h.some ≡ 0 = stops_plain budget classes _ h.names h.rest h.part h.some h.stops in
     counts_gained had has (text beginning h.whole h.pieces ++ h.some) count h.put (omega (arith, h.number, whole, rest, feeds_append (text beginning h.whole h.pieces) h.some))
 
 -- ---- what a run that played says of the whole of it
 
-pub counts_of : (how : Status) (script : Script) (r : Option Run) (had has : Option (List ℕ)) (count : ℕ) → WasPlayed how script r had has count → CountsLines had has count
-counts_of how script None had has count h = counts_none had has count h.0 h.1
-counts_of status.Ok script (Some engine) had has count h = counts_all _ script.lines _ had has count h.0 h.1
-counts_of status.Usage script (Some engine) had has count h = counts_some _ script.lines _ had has count h
-counts_of (status.Script fault) script (Some engine) had has count h = counts_some _ script.lines _ had has count h
-counts_of status.ReadFault script (Some engine) had has count h = counts_some _ script.lines _ had has count h
-counts_of status.WriteFault script (Some engine) had has count h = counts_some _ script.lines _ had has count h
-counts_of status.Memory script (Some engine) had has count h = counts_some _ script.lines _ had has count h
+pub counts_of : (z : Sizes) (budget : ℕ) (how : Status) (script : Script) (r : Option (List Entry)) (had has : Option (List ℕ)) (count : ℕ) → WasPlayed z budget how script r had has count → CountsLines had has count
+counts_of z budget how script None had has count h = counts_none had has count h.0 h.1
+counts_of z budget status.Ok script (Some history) had has count h = counts_all z budget _ script.lines _ had has count h.0 h.1
+counts_of z budget status.Usage script (Some history) had has count h = counts_some z budget _ script.lines _ had has count h
+counts_of z budget (status.Script fault) script (Some history) had has count h = counts_some z budget _ script.lines _ had has count h
+counts_of z budget status.ReadFault script (Some history) had has count h = counts_some z budget _ script.lines _ had has count h
+counts_of z budget status.WriteFault script (Some history) had has count h = counts_some z budget _ script.lines _ had has count h
+counts_of z budget status.Memory script (Some history) had has count h = counts_some z budget _ script.lines _ had has count h
 
 -- a run that played nothing
 pub counts_unplayed : (held : Option (List ℕ)) (count : ℕ) → count ≡ 0 → CountsLines held held count
 counts_unplayed held count none = counts_none held held count refl none
 
-pub headline_of : (how : Status) (left now : Option (List ℕ)) (script : Script) (r : Option Run) (had has : Option (List ℕ)) (count : ℕ) → IsScript left script → WasTaken left now → WasPlayed how script r had has count → OnDone how (Headline left now had has r)
-headline_of status.Ok None now script r had has count is taken h = tt
-headline_of status.Ok (Some input) now script None had has count is taken h = tt
-headline_of status.Ok (Some input) now script (Some engine) had has count is taken h = (script, is, taken ∙ ap (λ (xs : List ℕ). Some xs) (nothing_left input script level_limits is), h.0)
-headline_of status.Usage left now script r had has count is taken h = tt
-headline_of (status.Script fault) left now script r had has count is taken h = tt
-headline_of status.ReadFault left now script r had has count is taken h = tt
-headline_of status.WriteFault left now script r had has count is taken h = tt
-headline_of status.Memory left now script r had has count is taken h = tt
+-- how the words play a script
+abbrev pub PlayedAs : Words → Status → Script → Option Run → Option (List ℕ) → Option (List ℕ) → ℕ → Type 0
+PlayedAs w how script r had has count = WasPlayed (sizes_of w.shape) w.slice how script (option_map history_of r) had has count
+
+pub headline_of : (w : Words) (how : Status) (left now : Option (List ℕ)) (script : Script) (r : Option Run) (had has : Option (List ℕ)) (count : ℕ) → IsScript (limits_in w.shape) left script → WasTaken left now → PlayedAs w how script r had has count → OnDone how (Headline w left now had has r)
+headline_of w status.Ok None now script r had has count is taken h = tt
+headline_of w status.Ok (Some input) now script None had has count is taken h = tt
+headline_of w status.Ok (Some input) now script (Some engine) had has count is taken h = (script, is, taken ∙ ap (λ (xs : List ℕ). Some xs) (nothing_left input script (limits_in w.shape) is), h.0)
+headline_of w status.Usage left now script r had has count is taken h = tt
+headline_of w (status.Script fault) left now script r had has count is taken h = tt
+headline_of w status.ReadFault left now script r had has count is taken h = tt
+headline_of w status.WriteFault left now script r had has count is taken h = tt
+headline_of w status.Memory left now script r had has count is taken h = tt
 
 -- ---- the classes of a script that can be played
 
@@ -183,35 +191,35 @@ framed_classes vars classes frames (l ∷ lines) h =
     let parts = and_true (frame.fits vars classes frames l.who l.cmd) _ h in
     (fits_class vars classes frames l.who l.cmd parts.0, framed_classes vars classes (frame.frames_after frames l.who l.cmd) lines parts.1)
 
-outcome_played : OneText → (script : Script) (history : List Entry) (had has : Option (List ℕ)) → IsPlayable level_limits script → Played level 1000 (length script.classes) script.lines history had has → Gained had has (outcome level script.lines)
-outcome_played law script history had has can h =
+outcome_played : OneText → (z : Sizes) (budget : ℕ) (limits : Limits) (script : Script) (history : List Entry) (had has : Option (List ℕ)) → IsPlayable limits script → Played z budget (length script.classes) script.lines history had has → Gained had has (outcome z script.lines)
+outcome_played law z budget limits script history had has can h =
     subst (Gained had has)
-    (law level 1000 (length script.classes) script.lines h.pieces h.last can.classes (framed_classes script.vars (length script.classes) _ script.lines can.framed) (subst (Legal level) h.cut h.legal) h.plays)
+    (law z budget (length script.classes) script.lines h.pieces h.last can.classes (framed_classes script.vars (length script.classes) _ script.lines can.framed) (subst (Legal z) h.cut h.legal) h.plays)
     h.put
 
-pub outcome_of_run : OneText → (how : Status) (left : Option (List ℕ)) (script : Script) (r : Option Run) (had has : Option (List ℕ)) (count : ℕ) → IsPlayable level_limits script → IsScript left script → HasRun how r → WasPlayed how script r had has count → OnDone how (WritesOutcome left had has)
-outcome_of_run law status.Ok None script r had has count can is there h = tt
-outcome_of_run law status.Ok (Some input) script None had has count can is there h = absurd (there refl)
-outcome_of_run law status.Ok (Some input) script (Some engine) had has count can is there h = (script, is, outcome_played law script _ had has can h.0)
-outcome_of_run law status.Usage left script r had has count can is there h = tt
-outcome_of_run law (status.Script fault) left script r had has count can is there h = tt
-outcome_of_run law status.ReadFault left script r had has count can is there h = tt
-outcome_of_run law status.WriteFault left script r had has count can is there h = tt
-outcome_of_run law status.Memory left script r had has count can is there h = tt
+pub outcome_of_run : OneText → (w : Words) (how : Status) (left : Option (List ℕ)) (script : Script) (r : Option Run) (had has : Option (List ℕ)) (count : ℕ) → IsPlayable (limits_in w.shape) script → IsScript (limits_in w.shape) left script → HasRun how r → PlayedAs w how script r had has count → OnDone how (WritesOutcome w.shape left had has)
+outcome_of_run law w status.Ok None script r had has count can is there h = tt
+outcome_of_run law w status.Ok (Some input) script None had has count can is there h = absurd (there refl)
+outcome_of_run law w status.Ok (Some input) script (Some engine) had has count can is there h = (script, is, outcome_played law (sizes_of w.shape) w.slice (limits_in w.shape) script _ had has can h.0)
+outcome_of_run law w status.Usage left script r had has count can is there h = tt
+outcome_of_run law w (status.Script fault) left script r had has count can is there h = tt
+outcome_of_run law w status.ReadFault left script r had has count can is there h = tt
+outcome_of_run law w status.WriteFault left script r had has count can is there h = tt
+outcome_of_run law w status.Memory left script r had has count can is there h = tt
 
-ends_early : (left : Option (List ℕ)) (script : Script) (engine : Run) (had has : Option (List ℕ)) (count : ℕ) → IsScript left script → Stopped level 1000 (length script.classes) script.lines (history_of engine) had has count → EndsEarly left had has count engine
-ends_early None script engine had has count is h = tt
-ends_early (Some input) script engine had has count is h = (script, is, h)
+ends_early : (w : Words) (left : Option (List ℕ)) (script : Script) (engine : Run) (had has : Option (List ℕ)) (count : ℕ) → IsScript (limits_in w.shape) left script → Stopped (sizes_of w.shape) w.slice (length script.classes) script.lines (history_of engine) had has count → EndsEarly w left had has count engine
+ends_early w None script engine had has count is h = tt
+ends_early w (Some input) script engine had has count is h = (script, is, h)
 
-pub early_of : (how : Status) (left : Option (List ℕ)) (script : Script) (r : Option Run) (had has : Option (List ℕ)) (count : ℕ) → IsScript left script → WasPlayed how script r had has count → OnStopped how r (EndsEarly left had has count)
-early_of status.Ok left script r had has count is h = tt
-early_of status.Usage left script r had has count is h = tt
-early_of (status.Script fault) left script r had has count is h = tt
-early_of status.ReadFault left script r had has count is h = tt
-early_of status.WriteFault left script None had has count is h = tt
-early_of status.WriteFault left script (Some engine) had has count is h = ends_early left script engine had has count is h
-early_of status.Memory left script None had has count is h = tt
-early_of status.Memory left script (Some engine) had has count is h = ends_early left script engine had has count is h
+pub early_of : (w : Words) (how : Status) (left : Option (List ℕ)) (script : Script) (r : Option Run) (had has : Option (List ℕ)) (count : ℕ) → IsScript (limits_in w.shape) left script → PlayedAs w how script r had has count → OnStopped how r (EndsEarly w left had has count)
+early_of w status.Ok left script r had has count is h = tt
+early_of w status.Usage left script r had has count is h = tt
+early_of w (status.Script fault) left script r had has count is h = tt
+early_of w status.ReadFault left script r had has count is h = tt
+early_of w status.WriteFault left script None had has count is h = tt
+early_of w status.WriteFault left script (Some engine) had has count is h = ends_early w left script engine had has count is h
+early_of w status.Memory left script None had has count is h = tt
+early_of w status.Memory left script (Some engine) had has count is h = ends_early w left script engine had has count is h
 
 -- where a script was read, the status is Ok but for a fault of the sink, or want of memory
 pub completes_played : (how : Status) (before now : ℕ) → WritesFault before now how → ¬ Rose before now → (how ≡ status.Ok) ⊎ (how ≡ status.Memory)
@@ -223,27 +231,27 @@ completes_played status.WriteFault before now h quiet = absurd (quiet h)
 completes_played status.Memory before now h quiet = inr refl
 
 -- where none was read of an input that is one, there was a fault of the source, or no memory
-pub completes_unread : (how : Status) (left rest : Option (List ℕ)) (before now : ℕ) → Refuses left rest before now how → TellsScript left → ¬ Rose before now → (how ≡ status.Ok) ⊎ (how ≡ status.Memory)
-completes_unread status.Ok left rest before now h told quiet = inl refl
-completes_unread status.Usage left rest before now h told quiet = absurd h
-completes_unread (status.Script fault) None rest before now h told quiet = absurd told
-completes_unread (status.Script fault) (Some input) rest before now h told quiet = absurd (not_both input level_limits told.0 fault told.1 h.0)
-completes_unread status.ReadFault left rest before now h told quiet = absurd (quiet h)
-completes_unread status.WriteFault left rest before now h told quiet = absurd h
-completes_unread status.Memory left rest before now h told quiet = inr refl
+pub completes_unread : (name : ShapeName) (limits : Limits) (how : Status) (left rest : Option (List ℕ)) (before now : ℕ) → limits ≡ limits_in name → Refuses limits left rest before now how → TellsScript name left → ¬ Rose before now → (how ≡ status.Ok) ⊎ (how ≡ status.Memory)
+completes_unread name limits status.Ok left rest before now are h told quiet = inl refl
+completes_unread name limits status.Usage left rest before now are h told quiet = absurd h
+completes_unread name limits (status.Script fault) None rest before now are h told quiet = absurd told
+completes_unread name limits (status.Script fault) (Some input) rest before now are h told quiet = absurd (not_both input limits told.0 fault (rw are told.1) h.0)
+completes_unread name limits status.ReadFault left rest before now are h told quiet = absurd (quiet h)
+completes_unread name limits status.WriteFault left rest before now are h told quiet = absurd h
+completes_unread name limits status.Memory left rest before now are h told quiet = inr refl
 
-told_script : (left : Option (List ℕ)) (script : Script) → IsScript left script → IfSome left (λ input. (told : Script) × (script_of input level_limits ≡ Some told))
-told_script None script is = tt
-told_script (Some input) script is = (script, is)
+told_script : (name : ShapeName) (left : Option (List ℕ)) (script : Script) → IsScript (limits_in name) left script → IfSome left (λ input. (told : Script) × (script_of input (limits_in name) ≡ Some told))
+told_script name None script is = tt
+told_script name (Some input) script is = (script, is)
 
 -- wherever an engine played, the input is a script
-pub says_script_of : (how : Status) (left : Option (List ℕ)) (script : Script) (r : Option Run) (before now : ℕ) → IsScript left script → WritesFault before now how → SaysScript left how r
-says_script_of status.Ok left script None before now is h = tt
-says_script_of status.Ok left script (Some engine) before now is h = told_script left script is
-says_script_of status.Usage left script r before now is h = absurd h
-says_script_of (status.Script fault) left script r before now is h = absurd h
-says_script_of status.ReadFault left script r before now is h = absurd h
-says_script_of status.WriteFault left script None before now is h = tt
-says_script_of status.WriteFault left script (Some engine) before now is h = told_script left script is
-says_script_of status.Memory left script None before now is h = tt
-says_script_of status.Memory left script (Some engine) before now is h = told_script left script is
+pub says_script_of : (name : ShapeName) (how : Status) (left : Option (List ℕ)) (script : Script) (r : Option Run) (before now : ℕ) → IsScript (limits_in name) left script → WritesFault before now how → SaysScript name left how r
+says_script_of name status.Ok left script None before now is h = tt
+says_script_of name status.Ok left script (Some engine) before now is h = told_script name left script is
+says_script_of name status.Usage left script r before now is h = absurd h
+says_script_of name (status.Script fault) left script r before now is h = absurd h
+says_script_of name status.ReadFault left script r before now is h = absurd h
+says_script_of name status.WriteFault left script None before now is h = tt
+says_script_of name status.WriteFault left script (Some engine) before now is h = told_script name left script is
+says_script_of name status.Memory left script None before now is h = tt
+says_script_of name status.Memory left script (Some engine) before now is h = told_script name left script is

@@ -1,12 +1,11 @@
 -- Purges, one more at a time.
-use Rattle.std.proofs.Common.{◌≡◌, ◌≢◌, ℕ, ◌+◌, ◌-◌, ◌*◌, ◌<◌, ◌≤◌, min, zero, suc, Bool, refl, sym, subst, ap, ◌∙◌, inl, inr, arith, List, [], ◌∷◌, ◌++◌, append_assoc, append-nil, flat_map, drop, length, ◌⊎◌}
+use Rattle.std.proofs.Common.{◌≡◌, ℕ, ◌+◌, ◌-◌, ◌*◌, ◌<◌, ◌≤◌, min, zero, suc, Bool, refl, sym, subst, ap, ◌∙◌, inl, inr, arith, List, [], ◌∷◌, ◌++◌, append_assoc, append-nil, flat_map, drop, length, ◌⊎◌}
 use Rattle.std.specs.List.{AllByRecursion}
 use Rattle.std.proofs.Math.Seq.{drop-append_seam}
 use Rattle.std.proofs.lemmas.Grind.{flat_map-append}
 use Rattle.world_model.specs.Sizes.{Sizes}
 use Rattle.world_model.specs.World.{World, left_in, left_of}
 use Rattle.world_model.specs.State.{State, beginning}
-use Rattle.world_model.specs.CollectorSteps.{Purges}
 use Rattle.world_model.specs.Next.{run}
 use Rattle.world_model.specs.Histories.{LegalFrom, state_of, after}
 use Rattle.world_model.specs.Calls.{by, PurgesAlone, Appends}

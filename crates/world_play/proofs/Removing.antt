@@ -5,15 +5,15 @@ use Rattle.std.proofs.lemmas.List.{length-map}
 use Rattle.std.proofs.lemmas.Bool.{both_ways, not-true, false_from_ne_true}
 use Rattle.world_model.specs.Sizes.{Sizes}
 use Rattle.world_model.specs.NameLists.{same_name, has, all_different, members}
-use Rattle.world_model.specs.World.{World, Stage, Removal, Removed, has_stage, is_at}
+use Rattle.world_model.specs.World.{World, Removal, Removed, is_at}
 use Rattle.world_model.specs.Reach.{graph, IsUnit, IsRootUnit, Walk, IsReached}
 use Rattle.world_model.specs.State.{State, Marks, is_marked, white_units}
 use Rattle.world_model.specs.CollectorSteps.{IsIdle, Sweeps, SweepMay}
 use Rattle.world_model.specs.Next.{next, run, committed, with_found, settled}
 use Rattle.world_model.specs.Histories.{state_of, after, Legal, LegalFrom}
-use Rattle.world_model.specs.Calls.{by, SlicesUntilIdle}
+use Rattle.world_model.specs.Calls.{by}
 use Rattle.world_model.specs.Laws.{started, done, KeepsReached}
-use Rattle.world_model.proofs.ListFacts.{and_true, or_true, or_right, Among, contains_among, among_contains, filter_among, among_filter_test, among_test, test_among}
+use Rattle.world_model.proofs.ListFacts.{and_true, or_true, Among, contains_among, among_contains, filter_among, among_filter_test, among_test, test_among}
 use Rattle.world_model.proofs.NameFacts.{same_name_true, has_among, among_has}
 use Rattle.world_model.proofs.Joins.{run-append, by-append, legal_split, legal_join}
 use Rattle.world_model.proofs.Collections.{all_append, keeps_mark, slices_mark, collect_is_exact_holds}

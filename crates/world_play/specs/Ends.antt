@@ -1,9 +1,8 @@
 -- How a run ends, and what it has done then.
-use Rattle.std.specs.Prelude.{◌≡◌, ◌≢◌, ℕ, ◌≤◌, ◌⊎◌, Bool, true, false, List, [], ◌∷◌, length, drop, codes, string_bytes, String, Option, Some, None, IfSome}
-use Rattle.std.specs.Str.{bytes_eq}
+use Rattle.std.specs.Prelude.{◌≡◌, ◌≢◌, ℕ, ◌⊎◌, List, [], length, map, drop, string_bytes, String, Option, Some, None, option_map, IfSome}
 use Rattle.std.specs.declared.alloc.Global.{Global}
 use Rattle.play_io.specs.Faults.{Rose}
-use Rattle.world_model.specs.Sizes.{level}
+use Rattle.world_model.specs.Sizes.{Sizes}
 use Rattle.level_script.specs.declared.limits.Limits.{Limits}
 use Rattle.level_script.specs.declared.cause.ScriptErr.{ScriptErr}
 use Rattle.level_script.specs.declared.script.Script.{Script}
@@ -12,24 +11,39 @@ use Rattle.world_play.specs.Types.{Entry}
 use Rattle.world_play.specs.Turns.{Played, Stopped}
 use Rattle.world_play.specs.Streams.{Gains, Gained, line_feeds}
 use Rattle.world_play.specs.Outcome.{outcome}
+use Rattle.world_play.specs.Words.{sizes_of, words_of}
+use Rattle.world_play.specs.declared.words.Words.{Words}
+use Rattle.world_play.specs.declared.words.ShapeName.{ShapeName}
+use Rattle.world_play.specs.declared.words.ShapeName.TheVariants as shape
 use Rattle.world_play.specs.declared.status.Status.{Status}
 use Rattle.world_play.specs.declared.status.Status.TheVariants as status
 use Rattle.world_play.specs.declared.run.Run.{Run}
 use Rattle.world_play.specs.declared.run.Run.TheVariants as run
 
--- the words are those of the one command
-abbrev pub is_play : List (String Global) → Bool
-is_play [] = false
-is_play (word ∷ []) = bytes_eq (string_bytes word) (codes "play")
-is_play (word ∷ next ∷ words) = false
+-- what the words after the program's name say, where they are in the grammar
+abbrev pub said : List (String Global) → Option Words
+said words = words_of (map string_bytes words)
 
--- the limits of a script for the shape Level
-abbrev pub level_limits : Limits
-level_limits = record { lanes = level.lanes; slots = level.slots; strong = level.strong; markers = level.markers }
+-- the shape that they name
+abbrev pub shape_said : List (String Global) → Option ShapeName
+shape_said words = option_map (λ w. w.shape) (said words)
+
+-- the limits of a script for a shape
+abbrev pub limits_of : Sizes → Limits
+limits_of z = record { lanes = z.lanes; slots = z.slots; strong = z.strong; markers = z.markers }
+
+abbrev pub limits_in : ShapeName → Limits
+limits_in name = limits_of (sizes_of name)
 
 -- the history of the engine that played
 abbrev pub history_of : Run → List Entry
 history_of (run.PlainLevel heap) = heap.history
+history_of (run.PlainSmall heap) = heap.history
+
+-- the shape of the engine that played
+abbrev pub shape_played : Run → ShapeName
+shape_played (run.PlainLevel heap) = shape.Level
+shape_played (run.PlainSmall heap) = shape.Small
 
 -- what is left of an input once it was read: what is behind its first 16,777,217 bytes
 abbrev pub behind : List ℕ → List ℕ
@@ -42,21 +56,21 @@ WasTaken left now = IfSome left (λ input. now ≡ Some (behind input))
 -- ---- reading
 
 -- the input is this script
-abbrev pub IsScript : Option (List ℕ) → Script → Type 0
-IsScript left script = IfSome left (λ input. script_of input level_limits ≡ Some script)
+abbrev pub IsScript : Limits → Option (List ℕ) → Script → Type 0
+IsScript limits left script = IfSome left (λ input. script_of input limits ≡ Some script)
 
 -- the input has this fault
-abbrev pub HasFault : Option (List ℕ) → ScriptErr → Type 0
-HasFault left fault = IfSome left (λ input. fault_of input level_limits ≡ Some fault)
+abbrev pub HasFault : Limits → Option (List ℕ) → ScriptErr → Type 0
+HasFault limits left fault = IfSome left (λ input. fault_of input limits ≡ Some fault)
 
 -- why no script was read
-abbrev pub Refuses : Option (List ℕ) → Option (List ℕ) → ℕ → ℕ → Status → Type 0
-Refuses left rest before now status.Ok = ⊥
-Refuses left rest before now status.Usage = ⊥
-Refuses left rest before now (status.Script fault) = HasFault left fault × WasTaken left rest
-Refuses left rest before now status.ReadFault = Rose before now
-Refuses left rest before now status.WriteFault = ⊥
-Refuses left rest before now status.Memory = Unit {0}
+abbrev pub Refuses : Limits → Option (List ℕ) → Option (List ℕ) → ℕ → ℕ → Status → Type 0
+Refuses limits left rest before now status.Ok = ⊥
+Refuses limits left rest before now status.Usage = ⊥
+Refuses limits left rest before now (status.Script fault) = HasFault limits left fault × WasTaken left rest × (now ≡ before)
+Refuses limits left rest before now status.ReadFault = Rose before now
+Refuses limits left rest before now status.WriteFault = ⊥
+Refuses limits left rest before now status.Memory = now ≡ before
 
 -- ---- playing
 
@@ -68,27 +82,27 @@ IsBefore _ = Unit {0}
 
 -- a play ends so
 abbrev pub WritesFault : ℕ → ℕ → Status → Type 0
-WritesFault before now status.Ok = Unit {0}
+WritesFault before now status.Ok = now ≡ before
 WritesFault before now status.WriteFault = Rose before now
-WritesFault before now status.Memory = Unit {0}
+WritesFault before now status.Memory = now ≡ before
 WritesFault before now _ = ⊥
 
 -- there is an engine where it played, and none where nothing was played
-abbrev pub HasRun : Status → Option Run → Type 0
+abbrev pub HasRun : {A : Type 0} → Status → Option A → Type 0
 HasRun status.Ok r = r ≢ None
 HasRun status.WriteFault r = r ≢ None
 HasRun status.Memory r = Unit {0}
 HasRun _ r = r ≡ None
 
 -- The engine played the script to its end and the sink took its text; or, where the run ended early, it played the first lines, and the sink took a beginning of their text.
-abbrev pub PlayedBy : Status → Script → List Entry → Option (List ℕ) → Option (List ℕ) → ℕ → Type 0
-PlayedBy status.Ok script history had has count = Played level 1000 (length script.classes) script.lines history had has × (count ≡ length script.lines)
-PlayedBy _ script history had has count = Stopped level 1000 (length script.classes) script.lines history had has count
+abbrev pub PlayedBy : Sizes → ℕ → Status → Script → List Entry → Option (List ℕ) → Option (List ℕ) → ℕ → Type 0
+PlayedBy z budget status.Ok script history had has count = Played z budget (length script.classes) script.lines history had has × (count ≡ length script.lines)
+PlayedBy z budget _ script history had has count = Stopped z budget (length script.classes) script.lines history had has count
 
 -- Where there is an engine it played so; where there is none, nothing was put.
-abbrev pub WasPlayed : Status → Script → Option Run → Option (List ℕ) → Option (List ℕ) → ℕ → Type 0
-WasPlayed how script None had has count = (has ≡ had) × (count ≡ 0)
-WasPlayed how script (Some engine) had has count = PlayedBy how script (history_of engine) had has count
+abbrev pub WasPlayed : Sizes → ℕ → Status → Script → Option (List Entry) → Option (List ℕ) → Option (List ℕ) → ℕ → Type 0
+WasPlayed z budget how script None had has count = (has ≡ had) × (count ≡ 0)
+WasPlayed z budget how script (Some history) had has count = PlayedBy z budget how script history had has count
 
 -- ---- the whole run
 
@@ -104,15 +118,19 @@ OnStopped status.Memory r what = IfSome r what
 OnStopped _ r what = Unit {0}
 
 -- where there is no engine
-abbrev pub OnNone : Option Run → Type 0 → Type 0
+abbrev pub OnNone : {A : Type 0} → Option A → Type 0 → Type 0
 OnNone None what = what
 OnNone (Some engine) what = Unit {0}
 
+-- where there is an engine it has this shape
+abbrev pub HasShape : ShapeName → Option Run → Type 0
+HasShape name r = IfSome r (λ engine. shape_played engine ≡ name)
+
 -- the status of a fault is that of the input; where anything was played, the input is a script, and has none
-abbrev pub SaysScript : Option (List ℕ) → Status → Option Run → Type 0
-SaysScript left (status.Script fault) r = HasFault left fault
-SaysScript left _ None = Unit {0}
-SaysScript left _ (Some engine) = IfSome left (λ input. (script : Script) × (script_of input level_limits ≡ Some script))
+abbrev pub SaysScript : ShapeName → Option (List ℕ) → Status → Option Run → Type 0
+SaysScript name left (status.Script fault) r = HasFault (limits_in name) left fault
+SaysScript name left _ None = Unit {0}
+SaysScript name left _ (Some engine) = IfSome left (λ input. (script : Script) × (script_of input (limits_in name) ≡ Some script))
 
 -- where the input is a script or has a fault that was told, it was taken up to its end, or to one byte past the limit
 abbrev pub SaysTaken : Option (List ℕ) → Option (List ℕ) → Status → Option Run → Type 0
@@ -120,42 +138,43 @@ SaysTaken left now (status.Script fault) r = WasTaken left now
 SaysTaken left now _ None = Unit {0}
 SaysTaken left now _ (Some engine) = WasTaken left now
 
--- a fault of the source was counted
+-- one fault of the source was counted, and else none
 abbrev pub SaysRead : ℕ → ℕ → Status → Type 0
 SaysRead before now status.ReadFault = Rose before now
-SaysRead before now _ = before ≤ now
+SaysRead before now _ = now ≡ before
 
--- a fault of the sink was counted
+-- one fault of the sink was counted, and else none
 abbrev pub SaysWrite : ℕ → ℕ → Status → Type 0
 SaysWrite before now status.WriteFault = Rose before now
-SaysWrite before now _ = before ≤ now
+SaysWrite before now _ = now ≡ before
 
 -- The headline: the whole input is a script, nothing of it is left, one legal history of this engine plays it, and the sink gained exactly its text.
-abbrev pub Headline : Option (List ℕ) → Option (List ℕ) → Option (List ℕ) → Option (List ℕ) → Option Run → Type 0
-Headline left now had has r = IfSome left (λ input. IfSome r (λ engine.
-    (script : Script) × (script_of input level_limits ≡ Some script) × (now ≡ Some []) × Played level 1000 (length script.classes) script.lines (history_of engine) had has))
+abbrev pub Headline : Words → Option (List ℕ) → Option (List ℕ) → Option (List ℕ) → Option (List ℕ) → Option Run → Type 0
+Headline w left now had has r = IfSome left (λ input. IfSome r (λ engine.
+    (script : Script) × (script_of input (limits_in w.shape) ≡ Some script) × (now ≡ Some []) × Played (sizes_of w.shape) w.slice (length script.classes) script.lines (history_of engine) had has))
 
 -- After a fault of the sink, or without memory: the input is a script, the history of this engine plays its first lines, of the next perhaps some calls, and the sink gained a beginning of the text.
-abbrev pub EndsEarly : Option (List ℕ) → Option (List ℕ) → Option (List ℕ) → ℕ → Run → Type 0
-EndsEarly left had has count engine = IfSome left (λ input. (script : Script) × (script_of input level_limits ≡ Some script) × Stopped level 1000 (length script.classes) script.lines (history_of engine) had has count)
+abbrev pub EndsEarly : Words → Option (List ℕ) → Option (List ℕ) → Option (List ℕ) → ℕ → Run → Type 0
+EndsEarly w left had has count engine =
+    IfSome left (λ input. (script : Script) × (script_of input (limits_in w.shape) ≡ Some script) × Stopped (sizes_of w.shape) w.slice (length script.classes) script.lines (history_of engine) had has count)
 
 -- the sink gained the outcome of the script that the input is
-abbrev pub WritesOutcome : Option (List ℕ) → Option (List ℕ) → Option (List ℕ) → Type 0
-WritesOutcome left had has = IfSome left (λ input. (script : Script) × (script_of input level_limits ≡ Some script) × Gained had has (outcome level script.lines))
+abbrev pub WritesOutcome : ShapeName → Option (List ℕ) → Option (List ℕ) → Option (List ℕ) → Type 0
+WritesOutcome name left had has = IfSome left (λ input. (script : Script) × (script_of input (limits_in name) ≡ Some script) × Gained had has (outcome (sizes_of name) script.lines))
 
 -- the number is that of the line feeds that the sink gained
 abbrev pub CountsLines : Option (List ℕ) → Option (List ℕ) → ℕ → Type 0
 CountsLines had has count = Gains had has (λ bytes. count ≡ line_feeds bytes)
 
 -- the bytes are told, and are a script
-abbrev pub TellsScript : Option (List ℕ) → Type 0
-TellsScript None = ⊥
-TellsScript (Some input) = (script : Script) × (script_of input level_limits ≡ Some script)
+abbrev pub TellsScript : ShapeName → Option (List ℕ) → Type 0
+TellsScript name None = ⊥
+TellsScript name (Some input) = (script : Script) × (script_of input (limits_in name) ≡ Some script)
 
--- with the words of `play`, an input that is a script and no fault counted, the status is Ok, or there was no memory
-abbrev pub Completes : List (String Global) → Option (List ℕ) → ℕ → ℕ → ℕ → ℕ → Status → Type 0
-Completes words left read_before read_now put_before put_now how =
-    is_play words ≡ true → TellsScript left → ¬ Rose read_before read_now → ¬ Rose put_before put_now → (how ≡ status.Ok) ⊎ (how ≡ status.Memory)
+-- with an input that is a script and no fault counted, the status is Ok, or there was no memory
+abbrev pub Completes : ShapeName → Option (List ℕ) → ℕ → ℕ → ℕ → ℕ → Status → Type 0
+Completes name left read_before read_now put_before put_now how =
+    TellsScript name left → ¬ Rose read_before read_now → ¬ Rose put_before put_now → (how ≡ status.Ok) ⊎ (how ≡ status.Memory)
 
 -- neither the source nor the sink failed
 abbrev pub IsSure : Status → Type 0

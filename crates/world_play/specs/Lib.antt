@@ -9,3 +9,4 @@ pub mod Turns
 pub mod Stages
 pub mod Faults
 pub mod Ends
+pub mod Words

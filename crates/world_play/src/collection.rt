@@ -51,7 +51,8 @@ fn sweep_all<S: Shape, E: Engine<S>>(
     ensures held { KeepsHeld (E.holds engine.old) (E.holds engine.new) }
 {
     let mut found = Vec::new(alloc);
-    let mut buffer = vec![in alloc; NO_NAME; budget as usize]?;
+    let most = budget.min(S::LANES * S::QUOTA);
+    let mut buffer = vec![in alloc; NO_NAME; most as usize]?;
     let room = buffer.as_mut_slice();
     'sweeps: loop {
         let swept = engine.sweep(budget, room);

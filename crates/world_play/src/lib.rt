@@ -12,6 +12,8 @@ mod collection;
 mod hooks;
 mod lane;
 mod laws;
+#[cfg(test)]
+mod outside_tests;
 mod player;
 mod reply;
 mod run;
@@ -22,11 +24,17 @@ mod tests;
 mod text;
 mod turn;
 mod variables;
+mod words;
+#[cfg(test)]
+mod words_tests;
 
 pub use hooks::ClassHooks;
 pub use laws::one_text;
-pub use play_io::{Failed, NoPace, Pace, PutErr, Sink, Source, SureSink, SureSource, Turn};
+pub use play_io::{
+    Failed, MemSink, MemSource, NoPace, Pace, PutErr, Sink, Source, SureSink, SureSource, Turn,
+};
 pub use player::play;
 pub use reply::Reply;
 pub use run::{Ended, Run, run_in_memory, worldrun};
 pub use status::{Status, exit_code, fault_text};
+pub use words::{ShapeName, Words, read_words};

@@ -1,8 +1,7 @@
 //! Whole scripts.
-ghost use Rattle.std.specs.Prelude.{◌≡◌, ◌≤◌, true, false, [], length, replicate, Err, OnOk, OnErr};
-ghost use Rattle.play_io.specs.Faults.{Rose};
-ghost use Rattle.play_io.specs.declared.sink.PutErr.TheVariants as put;
+ghost use Rattle.std.specs.Prelude.{◌≡◌, ◌≤◌, true, false, [], length, replicate, OnOk, OnErr};
 ghost use Rattle.level_script.specs.Frames.{are_framed};
+ghost use Rattle.world_play.specs.Streams.{PutCounts};
 ghost use Rattle.world_play.specs.Turns.{IsReady, Answered, Unanswered, Played, Stopped};
 ghost use Rattle.world_play.specs.Variables.{shown};
 
@@ -28,8 +27,7 @@ fn play_line<S: Shape, E: Engine<S>, K: Sink>(
 ) -> Result<(), PutErr>
     requires some { 1 ≤ budget }
     requires ready { IsReady S.sizes (E.history engine.old) (E.holds engine.old) lanes.old played (length classes.now) line.who line.cmd }
-    ensures later { K.faults out.old ≤ K.faults out.new }
-    ensures failed { result ≡ Err put.Failed → Rose (K.faults out.old) (K.faults out.new) }
+    ensures faults { PutCounts (K.faults out.old) (K.faults out.new) result }
     ensures answered { OnOk result (Answered S.sizes budget (length classes.now) (E.history engine.old) (E.history engine.new) (E.holds engine.new) lanes.old lanes.new played line (K.held out.old) (K.held out.new)) }
     ensures unanswered { OnErr result (Unanswered S.sizes budget (length classes.now) (E.history engine.old) (E.history engine.new) (shown lanes.old) line (K.held out.old) (K.held out.new)) }
 {
@@ -59,8 +57,7 @@ pub fn play<S: Shape, E: Engine<S>, K: Sink>(
     requires framed { are_framed counts.now (length classes.now) (replicate S.sizes.lanes false) lines.now ≡ true }
     requires start { E.history engine.old ≡ [] }
     requires none { written.old ≡ 0 }
-    ensures later { K.faults out.old ≤ K.faults out.new }
-    ensures failed { result ≡ Err put.Failed → Rose (K.faults out.old) (K.faults out.new) }
+    ensures faults { PutCounts (K.faults out.old) (K.faults out.new) result }
     ensures plays { OnOk result (Played S.sizes budget (length classes.now) lines.now (E.history engine.new) (K.held out.old) (K.held out.new)) }
     ensures written { OnOk result (written.new ≡ length lines.now) }
     ensures stopped { OnErr result (Stopped S.sizes budget (length classes.now) lines.now (E.history engine.new) (K.held out.old) (K.held out.new) written.new) }

@@ -1,31 +1,32 @@
 //! The top call.
-ghost use Rattle.std.specs.Prelude.{◌≡◌, ◌≤◌, ◌↔◌, ◌⊎◌, true, false, Some, None, IfOk, IfErr, OnOk};
-ghost use Rattle.world_model.specs.Sizes.{level};
+ghost use Rattle.std.specs.Prelude.{◌≡◌, ◌≢◌, ◌≤◌, ◌↔◌, ◌⊎◌, None, IfSome, IfOk, IfErr, OnOk, Some, option_map};
 ghost use Rattle.level_script.specs.Frames.{IsPlayable};
-ghost use Rattle.world_play.specs.Ends.{is_play, level_limits, WasTaken, IsScript, Refuses, IsBefore, WritesFault, HasRun, WasPlayed, OnDone, OnStopped, OnNone, SaysScript, SaysTaken, SaysRead, SaysWrite, Headline, EndsEarly, WritesOutcome, CountsLines, TellsScript, Completes, IsSure};
+ghost use Rattle.level_script.specs.Context.{AreLawful};
+ghost use Rattle.world_play.specs.Words.{sizes_of};
+ghost use Rattle.world_play.specs.Ends.{said, shape_said, limits_of, limits_in, history_of, HasShape, WasTaken, IsScript, Refuses, IsBefore, WritesFault, HasRun, WasPlayed, OnDone, OnStopped, OnNone, SaysScript, SaysTaken, SaysRead, SaysWrite, Headline, EndsEarly, WritesOutcome, CountsLines, TellsScript, Completes, IsSure};
 ghost use Rattle.world_play.specs.declared.status.Status.TheVariants as status;
 
 use crate::player::play;
 use crate::status::Status;
 use crate::stream::{ReadErr, read_all};
+use crate::words::{ShapeName, Words, read_words};
 use heap_plain::PlainHeap;
 use level_script::{Limits, ParseErr, Script, parse};
 use play_io::{NoPace, Pace, PutErr, Sink, Source, SureSink, SureSource};
 use std::alloc::Global;
 use std::thread::Threads;
-use world_model::{Level, Shape};
+use world_model::{Level, Shape, Small};
 
 /// The most bytes of an input.
 const LIMIT: usize = 16777216;
-
-/// How many objects, items or steps a slice has.
-const SLICE: u32 = 1000;
 
 /// The engine that played.
 #[derive(Drop)]
 pub enum Run {
     /// The plain engine, in shape Level.
     PlainLevel(PlainHeap<Level>),
+    /// The plain engine, in shape Small.
+    PlainSmall(PlainHeap<Small>),
 }
 
 /// How a run ended.
@@ -36,6 +37,14 @@ pub struct Ended {
     pub lines: u64,
     /// The engine that played, if there was one.
     pub run: Option<Run>,
+}
+
+/// How a script was played in one shape.
+#[derive(Drop)]
+struct Performed<S: Shape> {
+    status: Status,
+    lines: u64,
+    engine: Option<PlainHeap<S>>,
 }
 
 // A run that never had an engine.
@@ -52,90 +61,155 @@ fn without_run(status: Status) -> Ended
     }
 }
 
-fn is_play(words: &[String]) -> bool
-    ensures { result ≡ is_play words.now }
-{
-    words.len() == 1 && words[0].as_bytes() == b"play".as_slice()
-}
-
-fn limits() -> Limits
-    ensures { result ≡ level_limits }
+fn limits_of<S: Shape>() -> Limits
+    ensures { result ≡ limits_of S.sizes }
 {
     Limits {
-        lanes: Level::LANES,
-        slots: Level::SLOTS,
-        strong: Level::STRONG,
-        markers: Level::MARKERS,
+        lanes: S::LANES,
+        slots: S::SLOTS,
+        strong: S::STRONG,
+        markers: S::MARKERS,
     }
 }
 
-// Reads the whole input as a script.
-fn read_script<S: Source>(alloc: Global, source: &mut S) -> Result<Script, Status>
-    ensures later { S.faults source.old ≤ S.faults source.new }
-    ensures playable { IfOk result (IsPlayable level_limits) }
-    ensures read { IfOk result (IsScript (S.left source.old)) }
+fn limits_in(shape: ShapeName) -> Limits
+    ensures limits { result ≡ limits_in shape }
+    ensures lawful { AreLawful result }
+{
+    match shape {
+        ShapeName::Level => limits_of::<Level>(),
+        ShapeName::Small => limits_of::<Small>(),
+    }
+}
+
+// Reads the whole input as a script within these limits.
+fn read_script<S: Source>(alloc: Global, source: &mut S, limits: Limits) -> Result<Script, Status>
+    requires { AreLawful limits }
+    ensures quiet { IfOk result (λ script. S.faults source.new ≡ S.faults source.old) }
+    ensures playable { IfOk result (IsPlayable limits) }
+    ensures read { IfOk result (IsScript limits (S.left source.old)) }
     ensures taken { OnOk result (WasTaken (S.left source.old) (S.left source.new)) }
-    ensures refused { IfErr result (Refuses (S.left source.old) (S.left source.new) (S.faults source.old) (S.faults source.new)) }
+    ensures refused { IfErr result (Refuses limits (S.left source.old) (S.left source.new) (S.faults source.old) (S.faults source.new)) }
 {
     let bytes = match read_all(alloc, source, LIMIT) {
         Ok(bytes) => bytes,
         Err(ReadErr::Failed) => return Err(Status::ReadFault),
         Err(ReadErr::Memory) => return Err(Status::Memory),
     };
-    match parse(alloc, bytes.as_slice(), limits()) {
+    match parse(alloc, bytes.as_slice(), limits) {
         Ok(script) => Ok(script),
         Err(ParseErr::Bad(fault)) => Err(Status::Script(fault)),
         Err(ParseErr::Memory) => Err(Status::Memory),
     }
 }
 
-// Plays a script on a new heap.
-fn perform<K: Sink>(alloc: Global, script: &Script, out: &mut K) -> Ended
-    requires { IsPlayable level_limits script.now }
-    ensures later { K.faults out.old ≤ K.faults out.new }
+// Plays a script on a new heap, with slices of so many objects, items or steps.
+fn perform<S: Shape, K: Sink>(
+    alloc: Global,
+    script: &Script,
+    slice: u32,
+    out: &mut K,
+) -> Performed<S>
+    requires some { 1 ≤ slice }
+    requires playable { IsPlayable (limits_of S.sizes) script.now }
     ensures write { WritesFault (K.faults out.old) (K.faults out.new) result.status }
-    ensures run { HasRun result.status result.run }
-    ensures played { WasPlayed result.status script.now result.run (K.held out.old) (K.held out.new) result.lines }
-    ensures unplayed { OnNone result.run (out.new ≡ out.old) }
+    ensures run { HasRun result.status result.engine }
+    ensures played { WasPlayed S.sizes slice result.status script.now (option_map (λ heap. heap.history) result.engine) (K.held out.old) (K.held out.new) result.lines }
+    ensures unplayed { OnNone result.engine (out.new ≡ out.old) }
 {
-    let Ok(mut engine) = PlainHeap::<Level>::new(alloc) else {
-        return without_run(Status::Memory);
+    let Ok(mut engine) = PlainHeap::<S>::new(alloc) else {
+        return Performed {
+            status: Status::Memory,
+            lines: 0,
+            engine: None,
+        };
     };
-    let mut written = 0;
-    match play::<Level, PlainHeap<Level>, K>(
+    let mut lines = 0;
+    let status = match play::<S, PlainHeap<S>, K>(
         alloc,
         &mut engine,
         &script.classes,
         script.lines.as_slice(),
         script.vars.as_slice(),
-        SLICE,
+        slice,
         out,
-        &mut written,
+        &mut lines,
     ) {
-        Ok(()) => Ended {
-            status: Status::Ok,
-            lines: written,
-            run: Some(Run::PlainLevel(engine)),
-        },
-        Err(PutErr::Failed) => Ended {
-            status: Status::WriteFault,
-            lines: written,
-            run: Some(Run::PlainLevel(engine)),
-        },
-        Err(PutErr::Memory) => Ended {
-            status: Status::Memory,
-            lines: written,
-            run: Some(Run::PlainLevel(engine)),
-        },
+        Ok(()) => Status::Ok,
+        Err(PutErr::Failed) => Status::WriteFault,
+        Err(PutErr::Memory) => Status::Memory,
+    };
+    Performed {
+        status,
+        lines,
+        engine: Some(engine),
+    }
+}
+
+// Plays a script in the shape that the words name.
+fn perform_in<K: Sink>(alloc: Global, script: &Script, words: Words, out: &mut K) -> Ended
+    requires some { 1 ≤ words.slice }
+    requires playable { IsPlayable (limits_in words.shape) script.now }
+    ensures write { WritesFault (K.faults out.old) (K.faults out.new) result.status }
+    ensures run { HasRun result.status result.run }
+    ensures shape { HasShape words.shape result.run }
+    ensures played { WasPlayed (sizes_of words.shape) words.slice result.status script.now (option_map history_of result.run) (K.held out.old) (K.held out.new) result.lines }
+    ensures unplayed { OnNone result.run (out.new ≡ out.old) }
+{
+    match words.shape {
+        ShapeName::Level => {
+            let done = perform::<Level, K>(alloc, script, words.slice, out);
+            Ended {
+                status: done.status,
+                lines: done.lines,
+                run: done.engine.map(Run::PlainLevel),
+            }
+        }
+        ShapeName::Small => {
+            let done = perform::<Small, K>(alloc, script, words.slice, out);
+            Ended {
+                status: done.status,
+                lines: done.lines,
+                run: done.engine.map(Run::PlainSmall),
+            }
+        }
+    }
+}
+
+// Does what the words say.
+fn play_words<S: Source, K: Sink>(alloc: Global, words: Words, script: &mut S, out: &mut K) -> Ended
+    requires some { 1 ≤ words.slice }
+    ensures known { result.status ≢ status.Usage }
+    ensures script { SaysScript words.shape (S.left script.old) result.status result.run }
+    ensures taken { SaysTaken (S.left script.old) (S.left script.new) result.status result.run }
+    ensures read_fault { SaysRead (S.faults script.old) (S.faults script.new) result.status }
+    ensures write_fault { SaysWrite (K.faults out.old) (K.faults out.new) result.status }
+    ensures complete { Completes words.shape (S.left script.old) (S.faults script.old) (S.faults script.new) (K.faults out.old) (K.faults out.new) result.status }
+    ensures run { HasRun result.status result.run }
+    ensures shape { HasShape words.shape result.run }
+    ensures unplayed { OnNone result.run (out.new ≡ out.old) }
+    ensures headline { OnDone result.status (Headline words (S.left script.old) (S.left script.new) (K.held out.old) (K.held out.new) result.run) }
+    ensures outcome { OnDone result.status (WritesOutcome words.shape (S.left script.old) (K.held out.old) (K.held out.new)) }
+    ensures early { OnStopped result.status result.run (EndsEarly words (S.left script.old) (K.held out.old) (K.held out.new) result.lines) }
+    ensures lines { CountsLines (K.held out.old) (K.held out.new) result.lines }
+{
+    match read_script(alloc, script, limits_in(words.shape)) {
+        Ok(script) => perform_in(alloc, &script, words, out),
+        Err(status) => without_run(status),
     }
 }
 
 /// Does what the words after the program's name say. The one command is `play`, which reads a
-/// script from the source, plays it on a plain heap of shape Level with slices of 1,000, and puts
-/// the reply to each line as one piece when the line is done.
+/// script from the source, plays it on a new heap of the engine and the shape that the words name,
+/// with slices of the size that they name, and puts the reply to each line as one piece when the
+/// line is done.
 ///
 /// The input is all bytes that the source has left. It is read to its end, or to one byte past
-/// 16,777,216, before anything is played. No threads are made, and the pace is told nothing.
+/// 16,777,216, before anything is played. A call of the source or the sink that failed is not made
+/// again, and is the last one. No threads are made, whatever number of markers the words name, and
+/// the pace is told nothing.
+///
+/// Of the words only the shape changes what a script's text is.
 pub fn worldrun<R: Threads + Sync, S: Source, K: Sink, P: Pace>(
     rt: &R,
     alloc: Global,
@@ -144,28 +218,26 @@ pub fn worldrun<R: Threads + Sync, S: Source, K: Sink, P: Pace>(
     out: &mut K,
     pace: &P,
 ) -> Ended
-    ensures usage { (result.status ≡ status.Usage) ↔ (is_play words.now ≡ false) }
+    ensures usage { (result.status ≡ status.Usage) ↔ (said words.now ≡ None) }
     ensures unread { result.status ≡ status.Usage → script.new ≡ script.old }
-    ensures script { SaysScript (S.left script.old) result.status result.run }
+    ensures script { IfSome (shape_said words.now) (λ shape. SaysScript shape (S.left script.old) result.status result.run) }
     ensures taken { SaysTaken (S.left script.old) (S.left script.new) result.status result.run }
     ensures read_fault { SaysRead (S.faults script.old) (S.faults script.new) result.status }
     ensures write_fault { SaysWrite (K.faults out.old) (K.faults out.new) result.status }
-    ensures complete { Completes words.now (S.left script.old) (S.faults script.old) (S.faults script.new) (K.faults out.old) (K.faults out.new) result.status }
+    ensures complete { IfSome (shape_said words.now) (λ shape. Completes shape (S.left script.old) (S.faults script.old) (S.faults script.new) (K.faults out.old) (K.faults out.new) result.status) }
     ensures run { HasRun result.status result.run }
+    ensures shape { IfSome (shape_said words.now) (λ shape. HasShape shape result.run) }
     ensures unplayed { OnNone result.run (out.new ≡ out.old) }
-    ensures headline { OnDone result.status (Headline (S.left script.old) (S.left script.new) (K.held out.old) (K.held out.new) result.run) }
-    ensures outcome { OnDone result.status (WritesOutcome (S.left script.old) (K.held out.old) (K.held out.new)) }
-    ensures early { OnStopped result.status result.run (EndsEarly (S.left script.old) (K.held out.old) (K.held out.new) result.lines) }
+    ensures headline { IfSome (said words.now) (λ w. OnDone result.status (Headline w (S.left script.old) (S.left script.new) (K.held out.old) (K.held out.new) result.run)) }
+    ensures outcome { IfSome (shape_said words.now) (λ shape. OnDone result.status (WritesOutcome shape (S.left script.old) (K.held out.old) (K.held out.new))) }
+    ensures early { IfSome (said words.now) (λ w. OnStopped result.status result.run (EndsEarly w (S.left script.old) (K.held out.old) (K.held out.new) result.lines)) }
     ensures lines { CountsLines (K.held out.old) (K.held out.new) result.lines }
 {
     let _ = rt;
     let _ = pace;
-    if !is_play(words) {
-        return without_run(Status::Usage);
-    }
-    match read_script(alloc, script) {
-        Ok(script) => perform(alloc, &script, out),
-        Err(status) => without_run(status),
+    match read_words(words) {
+        Some(words) => play_words(alloc, words, script, out),
+        None => without_run(Status::Usage),
     }
 }
 
@@ -179,8 +251,8 @@ pub fn run_in_memory<R: Threads + Sync>(
     out: &mut SureSink,
 ) -> Ended
     ensures sure { IsSure result.status }
-    ensures complete { is_play words.now ≡ true → TellsScript (Some script.old) → (result.status ≡ status.Ok) ⊎ (result.status ≡ status.Memory) }
-    ensures outcome { OnDone result.status (WritesOutcome (Some script.old) (Some out.old) (Some out.new)) }
+    ensures complete { IfSome (shape_said words.now) (λ shape. TellsScript shape (Some script.old) → (result.status ≡ status.Ok) ⊎ (result.status ≡ status.Memory)) }
+    ensures outcome { IfSome (shape_said words.now) (λ shape. OnDone result.status (WritesOutcome shape (Some script.old) (Some out.old) (Some out.new))) }
 {
     worldrun(rt, alloc, words, script, out, &NoPace)
 }

@@ -1,9 +1,6 @@
 //! Whole inputs, and texts that are put whole.
-ghost use Rattle.std.specs.Prelude.{◌≡◌, ◌^◌, ◌<◌, ◌≤◌, Err, IfOk, OnOk, OnErr};
-ghost use Rattle.play_io.specs.Faults.{Rose};
-ghost use Rattle.play_io.specs.declared.sink.PutErr.TheVariants as put;
-ghost use Rattle.world_play.specs.Streams.{Read, Gained, GainedStart};
-ghost use Rattle.world_play.specs.declared.stream.ReadErr.TheVariants as read;
+ghost use Rattle.std.specs.Prelude.{◌^◌, ◌<◌, IfOk, OnOk, OnErr};
+ghost use Rattle.world_play.specs.Streams.{Read, ReadCounts, PutCounts, Gained, GainedStart};
 
 use play_io::{PutErr, Sink, Source};
 use std::alloc::Global;
@@ -24,8 +21,7 @@ pub(crate) fn read_all<S: Source>(
     limit: usize,
 ) -> Result<Vec<u8>, ReadErr>
     requires { limit < 2 ^ 32 }
-    ensures later { S.faults source.old ≤ S.faults source.new }
-    ensures failed { result ≡ Err read.Failed → Rose (S.faults source.old) (S.faults source.new) }
+    ensures faults { ReadCounts (S.faults source.old) (S.faults source.new) result }
     ensures bytes { IfOk result (λ v. Read (S.left source.old) (S.left source.new) limit v.items) }
 {
     let mut all = Vec::new(alloc);
@@ -47,8 +43,7 @@ pub(crate) fn read_all<S: Source>(
 
 /// Puts all of the bytes; what a put leaves over is put again.
 pub(crate) fn put_all<K: Sink>(sink: &mut K, bytes: &[u8]) -> Result<(), PutErr>
-    ensures later { K.faults sink.old ≤ K.faults sink.new }
-    ensures failed { result ≡ Err put.Failed → Rose (K.faults sink.old) (K.faults sink.new) }
+    ensures faults { PutCounts (K.faults sink.old) (K.faults sink.new) result }
     ensures all { OnOk result (Gained (K.held sink.old) (K.held sink.new) bytes.now) }
     ensures start { OnErr result (GainedStart (K.held sink.old) (K.held sink.new) bytes.now) }
 {

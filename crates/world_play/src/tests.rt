@@ -285,6 +285,15 @@ fn inputs_that_are_no_scripts(rt: HostRuntime) {
             Cause::UnknownCommand
         )
     );
+    assert!(rt;
+        is_fault(
+            &rt,
+            rt.alloc(),
+            "class A Object\n0 op",
+            2,
+            Cause::UnknownCommand
+        )
+    );
 }
 
 #[test]

@@ -1,6 +1,4 @@
-use Rattle.std.proofs.Common.{◌≡◌, ◌∙◌, ℕ, ◌<◌, min, length, inl, inr, refl, sym, arith}
-use Rattle.world_model.specs.World.{left_of}
-use Rattle.world_model.specs.Histories.{after}
+use Rattle.std.proofs.Common.{◌∙◌, length, inl, inr, sym, arith}
 use Rattle.world_play.proofs.Purging.{destroys_none, destroys_more, destroys_all, purge_answers, still_by_class, purge_less, never_gathering}
 use Rattle.world_play.proofs.collection.purge_all.Goals.{then-left-eq0-via-then-left-eq0, then-left-eq0-via-else-left-eq0+then-bound-eq0}
 use Rattle.world_play.proofs.collection.purge_all.Goals as goal

@@ -1,4 +1,4 @@
-use Rattle.std.proofs.Common.{◌≡◌, ◌+◌, ◌*◌, ◌≤◌, min, length}
+use Rattle.std.proofs.Common.{◌≡◌, ◌+◌, ◌*◌, min, length}
 use Rattle.world_model.specs.World.{left_of}
 use Rattle.world_model.specs.Histories.{after}
 use Rattle.world_model.specs.Engines.{KeepsHeld}

@@ -26,7 +26,7 @@ loop-played-init g c = rw (c.as_mut_slice-lanes.ensures.value, c.requires.start)
   legal = tt;
   alone = refl;
   kept = fresh_kept _ _ _ c.in-Ok.ensures;
-  later = omega arith;
+  faults = refl;
   written = c.requires.none;
 })
 
@@ -64,7 +64,7 @@ loop-played-preserved g c =
       legal = t.legal;
       alone = t.alone;
       kept = t.kept;
-      later = omega (arith, i.later, c.in_ok-play_line.ensures.later);
+      faults = c.in_ok-play_line.ensures.faults ∙ i.faults;
       written = ap (λ (n : ℕ). n + 1) i.written;
     })
 

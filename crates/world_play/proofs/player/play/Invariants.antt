@@ -1,4 +1,4 @@
-use Rattle.std.proofs.Common.{◌≡◌, ◌≤◌, List, true, take, drop, length, IsTrue}
+use Rattle.std.proofs.Common.{◌≡◌, List, true, take, drop, length, IsTrue}
 use Rattle.world_model.specs.State.{beginning}
 use Rattle.world_model.specs.Histories.{after, Legal}
 use Rattle.world_model.specs.Engines.{no_slice}
@@ -22,6 +22,6 @@ invariant-loop-played g l =
       legal : Legal g.S.Shape.sizes (history l.engine);
       alone : IsTrue (no_slice (after (history l.engine)));
       kept : AreKept (g.E.Engine.holds l.engine) l.lanes l.played;
-      later : g.K.Sink.faults l.fn.out ≤ g.K.Sink.faults l.out;
+      faults : g.K.Sink.faults l.out ≡ g.K.Sink.faults l.fn.out;
       written : l.written ≡ l.played;
     }

@@ -1,4 +1,4 @@
-use Rattle.std.proofs.Common.{◌≡◌, ◌-◌, ◌≤◌, length, take, drop, ap, arith, length-drop}
+use Rattle.std.proofs.Common.{◌≡◌, ◌-◌, ◌≤◌, length, take, drop, ap, ◌∙◌, arith, length-drop}
 use Rattle.std.proofs.lemmas.List.{take_all}
 use Rattle.world_play.proofs.Streams.{gained_more, start_failed, start_nothing, err_holds}
 use Rattle.world_play.proofs.stream.put_all.Goals as goal
@@ -9,7 +9,7 @@ loop-at-preserved g c =
     = take_all _ _ (omega (arith, length-drop c.loop-at.at c.args.bytes.now)) in
     let count : c.in_ok-count.count ≤ length c.args.bytes.now - c.loop-at.at = let b = c.in_ok-count.ensures.bound in let e = ap length whole in omega (arith, length-drop c.loop-at.at c.args.bytes.now) in
     record {
-      later = omega (arith, c.loop-at.invariant.later, c.in_ok-count.ensures.cause.0);
+      faults = c.in_ok-count.ensures.cause.1 (omega arith) ∙ c.loop-at.invariant.faults;
       inside = omega arith;
       gained = gained_more _ _ _ c.args.bytes.now _ c.loop-at.at c.in_ok-count.count whole c.loop-at.invariant.gained c.in_ok-count.ensures.bytes;
     }

@@ -1,4 +1,4 @@
-use Rattle.std.proofs.Common.{◌+◌, ◌-◌, ◌≤◌, length}
+use Rattle.std.proofs.Common.{◌≡◌, ◌+◌, ◌-◌, ◌≤◌, length}
 use Rattle.world_play.proofs.Streams.{ReadOn}
 use Rattle.world_play.proofs.stream.read_all.Given as goal
 
@@ -6,7 +6,7 @@ abbrev pub invariant-loop-buf : goal.invariant-loop-buf
 invariant-loop-buf g l =
     let left = g.S.Source.left in
     record {
-      later : g.S.Source.faults l.fn.source ≤ g.S.Source.faults l.source;
+      faults : g.S.Source.faults l.source ≡ g.S.Source.faults l.fn.source;
       inside : length l.all.items ≤ l.limit + 1;
       bytes : ReadOn (left l.fn.source) (left l.source) l.all.items;
     }
