@@ -11,7 +11,7 @@ play: $(PROGRAM)
 # Proves every crate, from the lowest on, and builds the program.
 $(PROGRAM): crates.txt $(shell find crates -path '*/out' -prune -o -name '*.rt' -print -o -name '*.antt' -print)
 	@echo 'The first build proves every crate. That takes about a quarter of an hour on four processors, and less where earlier checks are kept.' >&2
-	@for crate in world_model play_io level_script heap_plain world_play; do \
+	@for crate in world_model class_schema play_io level_script heap_plain world_play; do \
 	    echo "proving $$crate" >&2; \
 	    (cd crates/$$crate && rt lib) > crates/build.log 2>&1 || { cat crates/build.log >&2; exit 1; }; \
 	done

@@ -9,18 +9,20 @@ use Rattle.std.proofs.lemmas.List.{length-map, length-set, length-append, get_or
 use Rattle.std.proofs.lemmas.List.Sums.{prefix_len-le-length}
 use Rattle.std.proofs.Math.ListN.{get_or-map}
 use Rattle.world_model.specs.declared.kind.ClassId.{ClassId}
-use Rattle.level_script.specs.Class.{Class}
-use Rattle.level_script.specs.Classes.{find_class, added, admitted, added_below, is_named, id_of}
+use Rattle.std.specs.List.{AllByRecursion}
+use Rattle.class_schema.specs.Class.{Class, Schema}
+use Rattle.class_schema.specs.Ancestry.{object, class_at}
+use Rattle.class_schema.specs.Table.{find_class, added, admitted, added_below, child, is_named, id_of}
+use Rattle.class_schema.specs.declared.refusal.SchemaErr.{SchemaErr}
 use Rattle.level_script.specs.Commands.{said_by_line}
 use Rattle.level_script.specs.Context.{start, with_line, with_classes, with_lane, lane_at, lane_of, act_turn, if_said, turn, script_from}
-use Rattle.level_script.specs.Frames.{opened_after, fits_lane, fits, frames_after, are_framed, IsPlayable}
+use Rattle.level_script.specs.Frames.{opened_after, fits_lane, fits, frames_after, are_framed, IsAtOnce, IsPlayable}
 use Rattle.level_script.specs.Lanes.{closed_lane, count_of, bound_new, root_of, bound_var, if_bound, lane_step, lane_index}
 use Rattle.level_script.specs.Lines.{input_lines}
 use Rattle.level_script.specs.Names.{number_of_name, number_in, with_name, has_number}
 use Rattle.level_script.specs.Reading.{line_turn, read_from, read_on, fault_at, outcome_of, script_of, script_of_lines}
 use Rattle.level_script.specs.declared.cause.Cause.{Cause}
 use Rattle.level_script.specs.declared.cause.Cause.TheVariants as cause
-use Rattle.level_script.specs.declared.cause.SchemaErr.{SchemaErr}
 use Rattle.level_script.specs.declared.cause.ScriptErr.{ScriptErr}
 use Rattle.level_script.specs.declared.context.Context.{Context}
 use Rattle.level_script.specs.declared.lanes.LaneNames.{LaneNames}
@@ -223,8 +225,10 @@ Within lanes vars = (l : ℕ) → count_of (get_or lanes l closed_lane) ≤ get_
 record Good (limits : Limits) (c : Context) : Type 0 where
   lanes : length c.lanes ≡ limits.lanes
   now : frames_through (replicate limits.lanes false) c.lines ≡ map (λ lane. lane.opened) c.lanes
-  framed : (vars : List ℕ) (classes : ℕ) → Within c.lanes vars → length c.classes ≤ classes → are_framed vars classes (replicate limits.lanes false) c.lines ≡ true
-  some : 0 < length c.classes
+  framed : (vars : List ℕ) (classes : ℕ) → Within c.lanes vars → length c.classes.classes ≤ classes → are_framed vars classes (replicate limits.lanes false) c.lines ≡ true
+  slots : c.classes.slots ≡ limits.slots
+  some : 0 < length c.classes.classes
+  at_once : AllByRecursion IsAtOnce c.classes.classes
 
 -- a context with other lanes
 abbrev changed : Context → List LaneNames → Context
@@ -234,7 +238,7 @@ changed c lanes = record { classes = c.classes; in_header = c.in_header; lanes =
 good_push : (limits : Limits) (c : Context) (lanes : List LaneNames) (number : ℕ) (by : Who) (command : Cmd) → Good limits c → length lanes ≡ length c.lanes →
     frames_after (map (λ lane. lane.opened) c.lanes) by command ≡ map (λ lane. lane.opened) lanes →
     ((l : ℕ) → count_of (get_or c.lanes l closed_lane) ≤ count_of (get_or lanes l closed_lane)) →
-    ((vars : List ℕ) (classes : ℕ) → Within lanes vars → length c.classes ≤ classes → fits vars classes (map (λ lane. lane.opened) c.lanes) by command ≡ true) →
+    ((vars : List ℕ) (classes : ℕ) → Within lanes vars → length c.classes.classes ≤ classes → fits vars classes (map (λ lane. lane.opened) c.lanes) by command ≡ true) →
     Good limits (with_line (changed c lanes) number by command)
 good_push limits c lanes number by command g same frames grow fit =
     let line : Line = record { number = number; who = by; cmd = command } in
@@ -245,7 +249,9 @@ good_push limits c lanes number by command g same frames grow fit =
           framed_more vars classes (replicate limits.lanes false) c.lines line
           (g.framed vars classes (λ l. omega (arith, grow l, within l)) few)
           (ap (λ f. fits vars classes f by command) g.now ∙ fit vars classes within few);
+      slots = g.slots;
       some = g.some;
+      at_once = g.at_once;
     }
 
 -- an item that is there
@@ -263,7 +269,7 @@ set_grows (y ∷ ys) (suc i) x h zero = omega arith
 set_grows (y ∷ ys) (suc i) x h (suc l) = set_grows ys i x h l
 
 -- a line of a lane fits
-good_lane : (limits : Limits) (c : Context) (number i : ℕ) (lane left : LaneNames) (command : Cmd) → Good limits c → slice_get c.lanes i ≡ Some lane → StepFacts c.classes lane left command →
+good_lane : (limits : Limits) (c : Context) (number i : ℕ) (lane left : LaneNames) (command : Cmd) → Good limits c → slice_get c.lanes i ≡ Some lane → StepFacts c.classes.classes lane left command →
     Good limits (with_line (changed c (slice_set c.lanes i left)) number (who.Lane i) command)
 good_lane limits c number i lane left command g is facts =
     let there = got c.lanes i lane closed_lane is in
@@ -280,14 +286,14 @@ good_lane limits c number i lane left command g is facts =
     (λ t. inside t && fits_lane (slice_index vars i) classes (opened_here t) command) ∙ facts.fit (get_or vars i 0) classes most few)
 
 -- a step of a lane keeps it
-good_with_lane : (limits : Limits) (c next : Context) (number i : ℕ) (lane : LaneNames) (what : Does) (r : Result (LaneNames × Cmd) Cause) → Good limits c → slice_get c.lanes i ≡ Some lane → lane_step c.classes lane what ≡ r → with_lane number c i r ≡ Ok next → Good limits next
+good_with_lane : (limits : Limits) (c next : Context) (number i : ℕ) (lane : LaneNames) (what : Does) (r : Result (LaneNames × Cmd) Cause) → Good limits c → slice_get c.lanes i ≡ Some lane → lane_step c.classes.classes lane what ≡ r → with_lane number c i r ≡ Ok next → Good limits next
 good_with_lane limits c next number i lane what (Err why) g is step e = err_ok e
-good_with_lane limits c next number i lane what (Ok (left, command)) g is step e = subst (Good limits) (ok_same e) (good_lane limits c number i lane left command g is (step_facts c.classes lane what (left, command) step))
+good_with_lane limits c next number i lane what (Ok (left, command)) g is step e = subst (Good limits) (ok_same e) (good_lane limits c number i lane left command g is (step_facts c.classes.classes lane what (left, command) step))
 
 -- so does a line of a lane that is there
 good_lane_at : (limits : Limits) (c next : Context) (number i : ℕ) (what : Does) (o : Option LaneNames) → Good limits c → slice_get c.lanes i ≡ o → lane_at number c i o what ≡ Ok next → Good limits next
 good_lane_at limits c next number i what None g is e = err_ok e
-good_lane_at limits c next number i what (Some lane) g is e = good_with_lane limits c next number i lane what (lane_step c.classes lane what) g is refl e
+good_lane_at limits c next number i what (Some lane) g is e = good_with_lane limits c next number i lane what (lane_step c.classes.classes lane what) g is refl e
 
 -- and one of a number that may name a lane
 good_lane_of : (limits : Limits) (c next : Context) (number : ℕ) (what : Does) (o : Option ℕ) → Good limits c → lane_of number c o what ≡ Ok next → Good limits next
@@ -296,25 +302,46 @@ good_lane_of limits c next number what (Some i) g e = good_lane_at limits c next
 
 -- ---- the header
 
--- classes are never fewer
-added_grows : (classes more : List Class) (line : ℕ) (name : List ℕ) (r : Result ClassId SchemaErr) → added_below classes line name r ≡ Ok more → length classes ≤ length more
-added_grows classes more line name (Err refusal) e = err_ok e
-added_grows classes more line name (Ok parent) e =
-    let P : List Class → Type 0 = λ cs. length classes ≤ length cs in
-    subst P (ok_same e) (omega (arith, length_push classes (record { name = name; line = line; parent = Some parent })))
+-- what a line of the header leaves of the table: no fewer classes, the slots, and classes that are ready at once
+record TableGrows (old new : Schema) : Type 0 where
+  classes : length old.classes ≤ length new.classes
+  slots : new.slots ≡ old.slots
+  at_once : AllByRecursion IsAtOnce old.classes → AllByRecursion IsAtOnce new.classes
+
+-- the class at a place is ready at once where all are
+at_once_there : (classes : List Class) (i : ℕ) → AllByRecursion IsAtOnce classes → IsAtOnce (slice_index_or classes i object)
+at_once_there [] i h = refl
+at_once_there (c ∷ classes) zero h = h.0
+at_once_there (c ∷ classes) (suc i) h = at_once_there classes i h.1
+
+-- so is one more
+at_once_more : (classes : List Class) (c : Class) → AllByRecursion IsAtOnce classes → IsAtOnce c → AllByRecursion IsAtOnce (classes ++ c ∷ [])
+at_once_more [] c h one = (one, tt)
+at_once_more (d ∷ classes) c h one = (h.0, at_once_more classes c h.1 one)
+
+added_grows : (t more : Schema) (line : ℕ) (name : List ℕ) (r : Result ClassId SchemaErr) → added_below t line name r ≡ Ok more → TableGrows t more
+added_grows t more line name (Err refusal) e = err_ok e
+added_grows t more line name (Ok parent) e =
+    subst (TableGrows t) (ok_same e) (record {
+      classes = omega (arith, length_push t.classes (child t.classes line name parent));
+      slots = refl;
+      at_once = λ h. at_once_more t.classes (child t.classes line name parent) h (at_once_there t.classes parent.0 h);
+    })
 
 -- a line of the header keeps it
-good_classes : (limits : Limits) (c next : Context) (r : Result (List Class) SchemaErr) → Good limits c → ((more : List Class) → r ≡ Ok more → length c.classes ≤ length more) → with_classes c r ≡ Ok next → Good limits next
+good_classes : (limits : Limits) (c next : Context) (r : Result Schema SchemaErr) → Good limits c → ((more : Schema) → r ≡ Ok more → TableGrows c.classes more) → with_classes c r ≡ Ok next → Good limits next
 good_classes limits c next (Err refusal) g grows e = err_ok e
 good_classes limits c next (Ok more) g grows e =
-    subst (Good limits) (ok_same e) (record { lanes = g.lanes; now = g.now; framed = λ vars count within few. g.framed vars count within (omega (arith, grows more refl, few)); some = omega (arith, grows more refl, g.some) })
+    let t = grows more refl in
+    subst (Good limits) (ok_same e)
+    (record { lanes = g.lanes; now = g.now; framed = λ vars count within few. g.framed vars count within (omega (arith, t.classes, few)); slots = t.slots ∙ g.slots; some = omega (arith, t.classes, g.some); at_once = t.at_once g.at_once })
 
 -- ---- whole inputs
 
 -- what a line says keeps it
 good_act : (limits : Limits) (c next : Context) (number : ℕ) (what : Said) → Good limits c → act_turn number c what ≡ Ok next → Good limits next
 good_act limits c next number said.Nothing g e = subst (Good limits) (ok_same e) g
-good_act limits c next number (said.Class name parent) g e = good_classes limits c next (added c.classes number name parent) g (λ more is. added_grows c.classes more number name (admitted c.classes name parent) is) e
+good_act limits c next number (said.Class name parent) g e = good_classes limits c next (added c.classes number name parent) g (λ more is. added_grows c.classes more number name (admitted c.classes.classes name parent) is) e
 good_act limits c next number said.Full g e = subst (Good limits) (ok_same e) (good_push limits c c.lanes number who.Gc cmd.GcFull g refl refl (λ l. omega arith) (λ vars classes within few. refl))
 good_act limits c next number (said.Lane lane what) g e = good_lane_of limits c next number what (lane_index (length c.lanes) lane) g e
 
@@ -359,13 +386,15 @@ closed_copies (suc n) = ap (λ fs. false ∷ fs) (closed_copies n)
 -- it is so before the first line
 good_start : (limits : Limits) → Good limits (start limits)
 unfolding frames_through are_framed
-good_start limits = record { lanes = length_copies limits.lanes; now = closed_copies limits.lanes; framed = λ vars classes within few. refl; some = omega arith }
+good_start limits = record { lanes = length_copies limits.lanes; now = closed_copies limits.lanes; framed = λ vars classes within few. refl; slots = refl; some = omega arith; at_once = (refl, tt) }
 
 -- the script of such a context can be played
 good_script : (limits : Limits) (c : Context) → Good limits c → IsPlayable limits (script_from c)
 good_script limits c g = record {
   lanes = rw length-map g.lanes;
-  framed = g.framed (map count_of c.lanes) (length c.classes) (λ l. let same : get_or (map count_of c.lanes) l 0 ≡ count_of (get_or c.lanes l closed_lane) = get_or-map count_of c.lanes l closed_lane in omega (arith, same)) (omega arith);
+  slots = g.slots;
+  at_once = g.at_once;
+  framed = g.framed (map count_of c.lanes) (length c.classes.classes) (λ l. let same : get_or (map count_of c.lanes) l 0 ≡ count_of (get_or c.lanes l closed_lane) = get_or-map count_of c.lanes l closed_lane in omega (arith, same)) (omega arith);
   classes = g.some;
 }
 

@@ -1,16 +1,12 @@
 -- Tables by name, as lists.
 use Rattle.std.proofs.Common.{◌≡◌, ℕ, ◌+◌, List, [], ◌∷◌, ◌++◌, refl, sym, ap, ◌∙◌, Bool, true, false, not, ◌||◌, cond, map, Option, Some, None, option_map, String, string_bytes}
 use Rattle.std.specs.Prelude.{nat_lt, position}
-use Rattle.std.specs.List.{position_or_len, prefix_len, list_any, find}
+use Rattle.std.specs.List.{position_or_len, prefix_len, list_any}
 use Rattle.std.specs.Str.{bytes_eq}
-use Rattle.std.specs.Map.{lookup}
 use Rattle.std.specs.String.{string_eq}
 use Rattle.std.specs.declared.alloc.Global.{Global}
 use Rattle.std.proofs.lemmas.List.{length-map, map-append}
 use Rattle.indexmap.specs.IndexSet.{insert_key}
-use Rattle.level_script.specs.declared.classes.ClassRow.{ClassRow}
-use Rattle.level_script.specs.Class.{Class, class_of}
-use Rattle.level_script.specs.Classes.{taken, is_named}
 use Rattle.level_script.specs.Names.{number_of_name, number_in, with_name}
 
 -- ---- lists that are seen by a function
@@ -57,39 +53,3 @@ unfolding with_name
 name_added ks key =
     map_cond (list_any (string_eq key) ks) ks key
     ∙ ap (λ b. cond b (map string_bytes ks) (map string_bytes ks ++ string_bytes key ∷ [])) (sym (any_map string_bytes (bytes_eq (string_bytes key)) ks))
-
--- ---- classes
-
--- the rows of the table with their keys
-abbrev Entries : Type 0
-Entries = List (String Global × ClassRow)
-
--- a class that is looked up
-pub class_found : (es : Entries) (name : List ℕ) → position (λ k. bytes_eq name (string_bytes k)) (map (λ e. e.0) es) ≡ position (is_named name) (map class_of es)
-class_found es name = position_map (λ e. e.0) (λ k. bytes_eq name (string_bytes k)) es ∙ sym (position_map class_of (is_named name) es)
-
--- a function of a choice
-map_of_cond : {A B : Type 0} (f : A → B) (b : Bool) (x : A) (o : Option A) → option_map f (cond b (Some x) o) ≡ cond b (Some (f x)) (option_map f o)
-map_of_cond f true x o = refl
-map_of_cond f false x o = refl
-
--- the line of a class that is looked up
-pub class_taken : (es : Entries) (name : List ℕ) → option_map (λ row. row.line) (lookup (λ k. bytes_eq name (string_bytes k)) es) ≡ taken (map class_of es) name
-unfolding taken
-class_taken [] name = refl
-class_taken (e ∷ es) name =
-    map_of_cond (λ (row : ClassRow). row.line) (bytes_eq name (string_bytes e.0)) e.1 (lookup (λ k. bytes_eq name (string_bytes k)) es)
-    ∙ ap (cond (bytes_eq name (string_bytes e.0)) (Some e.1.line)) (class_taken es name)
-    ∙ sym (map_of_cond (λ (class : Class). class.line) (bytes_eq name (string_bytes e.0)) (class_of e) (find (is_named name) (map class_of es)))
-
--- no row has a name that is not taken
-pub class_none : (es : Entries) (name : List ℕ) → taken (map class_of es) name ≡ None → lookup (λ k. bytes_eq name (string_bytes k)) es ≡ None
-class_none es name e = none_of (lookup (λ k. bytes_eq name (string_bytes k)) es) (class_taken es name ∙ e)
-  where
-    none_of : (o : Option ClassRow) → option_map (λ (row : ClassRow). row.line) o ≡ None → o ≡ None
-    none_of None e = refl
-    none_of (Some row) e = absurd (cc)
-
--- one more row
-pub class_pushed : (es : Entries) (key : String Global) (row : ClassRow) → map class_of (es ++ (key, row) ∷ []) ≡ map class_of es ++ class_of (key, row) ∷ []
-class_pushed es key row = map-append class_of es ((key, row) ∷ [])

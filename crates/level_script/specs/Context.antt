@@ -1,12 +1,13 @@
 -- What the lines so far have made known, and what one more line adds.
 use Rattle.std.specs.Prelude.{◌≡◌, ℕ, ◌≤◌, true, false, List, [], ◌∷◌, ◌++◌, map, replicate, length, Option, Some, None, Result, Ok, Err, slice_get, slice_set}
-use Rattle.level_script.specs.Class.{Class}
-use Rattle.level_script.specs.Classes.{object, added}
+use Rattle.class_schema.specs.Class.{Schema}
+use Rattle.class_schema.specs.Ancestry.{object}
+use Rattle.class_schema.specs.Table.{added}
+use Rattle.class_schema.specs.declared.refusal.SchemaErr.{SchemaErr}
 use Rattle.level_script.specs.Commands.{said_by_line}
 use Rattle.level_script.specs.Lanes.{closed_lane, count_of, lane_step, lane_index}
 use Rattle.level_script.specs.declared.cause.Cause.{Cause}
 use Rattle.level_script.specs.declared.cause.Cause.TheVariants as cause
-use Rattle.level_script.specs.declared.cause.SchemaErr.{SchemaErr}
 use Rattle.level_script.specs.declared.cause.Stop.{Stop}
 use Rattle.level_script.specs.declared.cause.Stop.TheVariants as stop
 use Rattle.level_script.specs.declared.context.Context.{Context}
@@ -35,14 +36,14 @@ pub record AreLawful (limits : Limits) : Type 0 where
 
 -- what is known before the first line
 abbrev pub start : Limits → Context
-start limits = record { classes = object ∷ []; in_header = true; lanes = replicate limits.lanes closed_lane; lines = [] }
+start limits = record { classes = record { slots = limits.slots; classes = object ∷ [] }; in_header = true; lanes = replicate limits.lanes closed_lane; lines = [] }
 
 -- a line that does something, which ends the header
 abbrev pub with_line : Context → ℕ → Who → Cmd → Context
 with_line c number by command = record { classes = c.classes; in_header = false; lanes = c.lanes; lines = c.lines ++ record { number = number; who = by; cmd = command } ∷ [] }
 
--- the classes with a new one
-abbrev pub with_classes : Context → Result (List Class) SchemaErr → Result Context Cause
+-- the table of classes that a line leaves
+abbrev pub with_classes : Context → Result Schema SchemaErr → Result Context Cause
 with_classes c (Ok classes) = Ok (record { classes = classes; in_header = c.in_header; lanes = c.lanes; lines = c.lines })
 with_classes c (Err refusal) = Err (cause.Schema refusal)
 
@@ -58,7 +59,7 @@ with_lane number c index (Err why) = Err why
 -- the same of the lane at a place
 abbrev pub lane_at : ℕ → Context → ℕ → Option LaneNames → Does → Result Context Cause
 lane_at number c index None does = Err cause.Number
-lane_at number c index (Some lane) does = with_lane number c index (lane_step c.classes lane does)
+lane_at number c index (Some lane) does = with_lane number c index (lane_step c.classes.classes lane does)
 
 -- the same of a lane that may be there
 abbrev pub lane_of : ℕ → Context → Option ℕ → Does → Result Context Cause

@@ -1,5 +1,8 @@
 -- What the player of a script may rely on.
 use Rattle.std.specs.Prelude.{◌≡◌, ◌<◌, ℕ, nat_lt, Bool, true, false, not, ◌&&◌, List, [], ◌∷◌, length, replicate, slice_index, slice_index_or, slice_set}
+use Rattle.std.specs.List.{AllByRecursion}
+use Rattle.world_model.specs.declared.kind.Ready.TheVariants as ready
+use Rattle.class_schema.specs.Class.{Class}
 use Rattle.level_script.specs.declared.limits.Limits.{Limits}
 use Rattle.level_script.specs.declared.script.Cmd.{Cmd}
 use Rattle.level_script.specs.declared.script.Cmd.TheVariants as cmd
@@ -47,8 +50,14 @@ unfoldable pub are_framed : List ℕ → ℕ → List Bool → List Line → Boo
 are_framed vars classes frames [] = true
 are_framed vars classes frames (line ∷ lines) = fits vars classes frames line.who line.cmd && are_framed vars classes (frames_after frames line.who line.cmd) lines
 
--- a script that can be played: it has the lanes of the limits and a class, and each line fits where it stands, with all frames closed at first
+-- the objects of the class are ready as soon as they are asked
+abbrev pub IsAtOnce : Class → Type 0
+IsAtOnce class = class.ready ≡ ready.After 0
+
+-- a script that can be played: it has the lanes and the slots of the limits and a class, the classes are ready at once, and each line fits where it stands, with all frames closed at first
 pub record IsPlayable (limits : Limits) (script : Script) : Type 0 where
   pub lanes : length script.vars ≡ limits.lanes
-  pub classes : 0 < length script.classes
-  pub framed : are_framed script.vars (length script.classes) (replicate limits.lanes false) script.lines ≡ true
+  pub slots : script.classes.slots ≡ limits.slots
+  pub classes : 0 < length script.classes.classes
+  pub at_once : AllByRecursion IsAtOnce script.classes.classes
+  pub framed : are_framed script.vars (length script.classes.classes) (replicate limits.lanes false) script.lines ≡ true

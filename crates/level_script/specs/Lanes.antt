@@ -1,8 +1,8 @@
 -- What a line of a lane does to the lane's frame and variables.
 use Rattle.std.specs.Prelude.{◌≡◌, ℕ, nat_lt, Bool, true, false, List, [], length, Option, Some, None, Result, Ok, Err, MatchOption, slice_get, slice_set, if◌then◌else◌}
 use Rattle.world_model.specs.declared.kind.ClassId.{ClassId}
-use Rattle.level_script.specs.Class.{Class}
-use Rattle.level_script.specs.Classes.{find_class}
+use Rattle.class_schema.specs.Class.{Class}
+use Rattle.class_schema.specs.Table.{find_class}
 use Rattle.level_script.specs.Names.{number_of_name, number_in, with_name, has_number, with_number}
 use Rattle.level_script.specs.declared.cause.Cause.{Cause}
 use Rattle.level_script.specs.declared.cause.Cause.TheVariants as cause

@@ -1,5 +1,3 @@
-pub mod Class
-pub mod Classes
 pub mod Commands
 pub mod Context
 pub mod Forms

@@ -1,19 +1,6 @@
 //! Why an input is no script.
 
-/// Why a table of classes refuses a line.
-#[derive(Clone, Copy, Debug, PartialEq, Eq)]
-pub enum SchemaErr {
-    /// A class or a field has this name. It came with this line; `Object` came with line 0.
-    NameTaken(u32),
-    /// No class has the name of the parent.
-    NoParent,
-    /// A field does not fit: so many slots are used, and so many were asked for.
-    TooManySlots { used: u32, asked: u32 },
-    /// The class has children already.
-    HasChildren,
-    /// There are 4,096 classes already.
-    TooManyClasses,
-}
+use class_schema::SchemaErr;
 
 /// What is wrong with a line. Of several causes the first in this order is given.
 #[derive(Clone, Copy, Debug, PartialEq, Eq)]

@@ -3,13 +3,13 @@ ghost use Rattle.std.specs.Prelude.{◌≡◌, IfOk, Ok};
 ghost use Rattle.level_script.specs.Context.{AreLawful, start, with_line, class_turn, lane_turn, act_turn, turn, Turns, script_from};
 
 use crate::cause::{Cause, Stop};
-use crate::classes::{AddErr, ClassTable};
 use crate::command::read_line;
 use crate::lanes::Lanes;
 use crate::limits::Limits;
 use crate::said::{Does, Said};
 use crate::script::{Cmd, FieldNames, Line, Lines, Script, Who};
 use crate::word::{Identifier, Number};
+use class_schema::{AddErr, ClassTable};
 use std::alloc::{AllocError, Global};
 
 /// What the lines so far have made known.

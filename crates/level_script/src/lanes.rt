@@ -3,11 +3,11 @@ ghost use Rattle.std.specs.Prelude.{◌≡◌, ◌<◌, ◌≤◌, length, map, 
 ghost use Rattle.level_script.specs.Lanes.{closed_lane, open_step, close_step, new_step, root_step, bound_var, lane_step, lane_index, Steps, StepsAt, count_of};
 
 use crate::cause::{Cause, Stop};
-use crate::classes::ClassTable;
 use crate::names::{NameTable, NumberSet};
 use crate::said::Does;
 use crate::script::{Cmd, Counts};
 use crate::word::{Identifier, Number};
+use class_schema::ClassTable;
 use std::alloc::{AllocError, Global};
 use std::marker::Model;
 
@@ -60,7 +60,7 @@ impl LaneNames {
         var: &Identifier<'_>,
         class: &Identifier<'_>,
     ) -> Result<Cmd, Stop>
-        ensures { Steps (new_step classes.now self.old var.now class.now) self.new result }
+        ensures { Steps (new_step classes.now.classes self.old var.now class.now) self.new result }
     {
         if !self.opened {
             return Err(Stop::Faulty(Cause::Frame));
@@ -103,7 +103,7 @@ impl LaneNames {
 
     // Does what a line of the lane says.
     fn step(&mut self, classes: &ClassTable, does: &Does<'_>) -> Result<Cmd, Stop>
-        ensures { Steps (lane_step classes.now self.old does.now) self.new result }
+        ensures { Steps (lane_step classes.now.classes self.old does.now) self.new result }
     {
         match does {
             Does::Open => self.open(),
@@ -169,7 +169,7 @@ impl Lanes {
     /// Does what a line of a lane says.
     pub fn step(&mut self, lane: u32, classes: &ClassTable, does: &Does<'_>) -> Result<Cmd, Stop>
         requires { lane < length self.old }
-        ensures { StepsAt classes.now self.old lane does.now self.new result }
+        ensures { StepsAt classes.now.classes self.old lane does.now self.new result }
     {
         let lane = &mut self.items[lane as usize];
         lane.step(classes, does)

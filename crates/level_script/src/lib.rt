@@ -1,7 +1,7 @@
 //! The script language: what an input says, or the first fault that it has.
 //!
-//! It stands on world_model, for the ids of classes and the kinds of objects, and on the kit's maps
-//! in the order of insertion. `specs/` has the grammar, apart from the code: `Lines` cuts an input,
+//! It stands on class_schema, for the table of classes, on world_model, for the ids of classes, and
+//! on the kit's sets in the order of insertion. `specs/` has the grammar, apart from the code: `Lines` cuts an input,
 //! `Forms` has the words, `Commands` the lines, `Lanes` and `Context` what one more line adds to
 //! what the lines before it have made known, `Reading` whole inputs, and `Frames` what a player may
 //! rely on. So far there are the commands `class NAME PARENT`, `gc full`, and after a lane `open`,
@@ -9,12 +9,11 @@
 //!
 //! The layer above calls `parse`, which answers exactly the script, or exactly the first faulty line
 //! with its first cause, and gets from its contract that the script's lines can be played: each
-//! lane, variable and class is there, and each frame is open or closed as its line needs it.
-//! `ClassTable` is used by that layer for the kinds of objects and for names.
+//! lane, variable and class is there, and each frame is open or closed as its line needs it. The
+//! table of classes is that of class_schema.
 #![tactic(auto)]
 
 mod cause;
-mod classes;
 mod command;
 mod context;
 mod lanes;
@@ -27,8 +26,8 @@ mod said;
 mod script;
 mod word;
 
-pub use cause::{Cause, ParseErr, SchemaErr, ScriptErr};
-pub use classes::{AddErr, ClassTable};
+pub use cause::{Cause, ParseErr, ScriptErr};
+pub use class_schema::{AddErr, ClassTable, SchemaErr};
 pub use limits::Limits;
 pub use reader::parse;
 pub use script::{Cmd, Counts, FieldNames, Line, Lines, Script, Who};

@@ -1,7 +1,7 @@
 //! What an input says.
 ghost use Rattle.std.specs.Prelude.{◌≡◌, ◌∷◌, [], ◌++◌, map, string_bytes, OnOk};
 
-use crate::classes::ClassTable;
+use class_schema::ClassTable;
 use std::alloc::{AllocError, Global};
 use std::marker::Model;
 use world_model::ClassId;

@@ -1,8 +1,9 @@
 //! Whole inputs, with the scripts and the faults that the language gives them.
-use crate::cause::{Cause, ParseErr, SchemaErr, ScriptErr};
+use crate::cause::{Cause, ParseErr, ScriptErr};
 use crate::limits::Limits;
 use crate::reader::parse;
 use crate::script::{Cmd, Line, Script, Who};
+use class_schema::SchemaErr;
 use std::alloc::Global;
 use world_model::ClassId;
 

@@ -13,6 +13,7 @@ use Rattle.world_model.proofs.Joins.{run-append, by-append, legal_split}
 use Rattle.world_model.proofs.Solo.{state_after, state_after_one, legal_call, slices_closed}
 use Rattle.world_model.proofs.Progress.{left_to_scan, slice_progress, slice_world, idle_black, commit_done, started_world}
 use Rattle.world_model.specs.Engines.{Holdings, KeepsHeld, no_slice}
+use Rattle.world_play.specs.Header.{Header}
 use Rattle.world_play.specs.Types.{Name, Gathering, Marker, Collector, Begin, Commit, Marked, MarkStop, Swept, SweepStop, Act, Entry, Reply}
 use Rattle.world_play.specs.Types.begin
 use Rattle.world_play.specs.Types.commit
@@ -266,8 +267,8 @@ pieces old mid new a b c begins begun grown =
 begun_first : (acts : List Act) (of : List Name) (a b c d : List Entry) → acts ≡ act.BeginGc begin.Started ∷ map act.Kept of → first_begin ((((by Collector acts ++ a) ++ b) ++ c) ++ d) ≡ begin.Started
 begun_first acts of a b c d are = ap (λ (xs : List Act). first_begin ((((by Collector xs ++ a) ++ b) ++ c) ++ d)) are
 
-pub collects_all : (z : Sizes) (budget classes : ℕ) (old mid new : List Entry) (before between now : Holdings) (r : Reply) → Appends z old mid Collector (act.BeginGc begin.Started) → KeepsHeld before between → GoesOn z budget classes mid new between now r → Collects z budget classes old new before now r
-collects_all z budget classes old mid new before between now r h held on =
+pub collects_all : (z : Sizes) (budget : ℕ) (header : Header) (old mid new : List Entry) (before between now : Holdings) (r : Reply) → Appends z old mid Collector (act.BeginGc begin.Started) → KeepsHeld before between → GoesOn z budget header mid new between now r → Collects z budget header old new before now r
+collects_all z budget header old mid new before between now r h held on =
     let begins : List Entry = by Collector h.acts in
     let marks : List Entry = flat_map (by (Marker 0)) on.slices in
     let ends : List Entry = by Collector (act.CommitGc commit.Done ∷ []) in
@@ -291,7 +292,7 @@ collects_all z budget classes old mid new before between now r h held on =
         marked = subst (λ (s : State). SlicesUntilIdle s budget on.slices) (state_after z old mid Collector (act.BeginGc begin.Started) h) on.marked;
         swept = on.swept;
         found = refl;
-        purged = subst (λ (s : State). PurgesAll budget classes (103 * length s.world.found) s on.destroys.purges) state on.destroys.purged;
+        purged = subst (λ (s : State). PurgesAll budget header (103 * length s.world.found) s on.destroys.purges) state on.destroys.purged;
         are = refl;
       });
       answer = on.answer ∙ λ i. full_reply (left i).world (sym (begun_first h.acts h.call.of marks ends finds purges h.call.are) i);
@@ -302,8 +303,8 @@ collects_all z budget classes old mid new before between now r h held on =
     }
 
 -- a collection that was begun and not told to its end
-pub collects_some : (z : Sizes) (budget classes : ℕ) (old mid new : List Entry) (names : Bindings) → Appends z old mid Collector (act.BeginGc begin.Started) → GoesOnSome z budget mid new → Broken z budget classes old new names who.Gc cmd.GcFull
-collects_some z budget classes old mid new names h on =
+pub collects_some : (z : Sizes) (budget : ℕ) (header : Header) (old mid new : List Entry) (names : Bindings) → Appends z old mid Collector (act.BeginGc begin.Started) → GoesOnSome z budget mid new → Broken z budget header old new names who.Gc cmd.GcFull
+collects_some z budget header old mid new names h on =
     let begins : List Entry = by Collector h.acts in
     let marks : List Entry = flat_map (by (Marker 0)) on.slices in
     let ends : List Entry = by Collector (act.CommitGc commit.Done ∷ []) in

@@ -16,7 +16,10 @@ use Rattle.world_model.specs.Calls.{by, is_purge_part, is_purge_step, PurgesAlon
 use Rattle.world_model.proofs.Joins.{run-append, by-append, legal_split}
 use Rattle.world_model.proofs.ListFacts.{and_true, or_true, or_right, or_false, Among, among_append, among_filter, filter_among}
 use Rattle.world_model.proofs.NameFacts.{same_name_true, same_name_refl}
-use Rattle.world_play.specs.Types.{Name, Phase, Idle, Purged, Collector, Act, Entry}
+use Rattle.class_schema.specs.Ancestry.{class_at}
+use Rattle.world_play.specs.Header.{Header}
+use Rattle.world_play.specs.Types.{Name, ClassId, Phase, Idle, Purged, Collector, Act, Entry}
+use Rattle.world_play.specs.Types.ready
 use Rattle.world_play.specs.Types.act
 use Rattle.world_play.specs.Types.purge
 use Rattle.world_model.specs.Hooks.{class_of}
@@ -380,20 +383,22 @@ parts_keep s (a ∷ rest) all =
 
 -- ---- what classes answer
 
--- the class of each object is one of so many
-abbrev pub InTable : ℕ → World → Type 0
-InTable classes w = (n : Name) → (class_of w n).0 < classes
+-- the class of each object is one of the table, and each class is ready as soon as it is asked
+pub record InTable (header : Header) (w : World) : Type 0 where
+  pub known : (n : Name) → (class_of w n).0 < length header.classes.classes
+  pub at_once : (class : ClassId) → (class_at header.classes.classes class).ready ≡ ready.After 0
 
-part_agrees : (z : Sizes) (classes : ℕ) (w : World) (s : State) (a : Act) → StepOfCollector z s a → InTable classes w → AnswersBy classes w a → AgreesAtOnce a
-part_agrees z classes w s (act.Asked of poll answer) step table says =
-    let class : nat_lt (class_of w of).0 classes ≡ true = grind (arith, nat_tests, table of) in
+part_agrees : (z : Sizes) (header : Header) (w : World) (s : State) (a : Act) → StepOfCollector z s a → InTable header w → AnswersBy header w a → AgreesAtOnce a
+part_agrees z header w s (act.Asked of poll answer) step table says =
+    let known = table.known of in
+    let class : nat_lt (class_of w of).0 (length header.classes.classes) ≡ true = grind (arith, nat_tests, known) in
     let some : nat_lt 0 poll ≡ true = let number = step.may.number in grind (arith, nat_tests, number) in
-    says ∙ rw (class, some) refl
-part_agrees z classes w s a step table says = tt
+    says ∙ rw (class, table.at_once (class_of w of), some) refl
+part_agrees z header w s a step table says = tt
 
-parts_agree : (z : Sizes) (classes : ℕ) (w : World) (s : State) (acts : List Act) → LegalFrom z s (by Collector acts) → InTable classes w → AllByRecursion (AnswersBy classes w) acts → AllByRecursion AgreesAtOnce acts
-parts_agree z classes w s [] legal table says = tt
-parts_agree z classes w s (a ∷ rest) legal table says = (part_agrees z classes w s a legal.0 table says.0, parts_agree z classes w (next s (entry_of a)) rest legal.1 table says.1)
+parts_agree : (z : Sizes) (header : Header) (w : World) (s : State) (acts : List Act) → LegalFrom z s (by Collector acts) → InTable header w → AllByRecursion (AnswersBy header w) acts → AllByRecursion AgreesAtOnce acts
+parts_agree z header w s [] legal table says = tt
+parts_agree z header w s (a ∷ rest) legal table says = (part_agrees z header w s a legal.0 table says.0, parts_agree z header w (next s (entry_of a)) rest legal.1 table says.1)
 
 -- ---- one purge
 
@@ -411,15 +416,15 @@ all_front P (x ∷ xs) ys h = (h.0, all_front P xs ys h.1)
 closed : (s : State) (budget : ℕ) (reply : Purged) (steps : ℕ) → IsDestroying s → s.collector.agreed ≡ None → IsDestroying (next s (entry_of (act.PurgeGc budget reply)))
 closed s budget reply steps well none = record { different = well.different; agreed = λ n e. absurd cc }
 
-purge_takes : (z : Sizes) (classes : ℕ) (s : State) (budget steps left : ℕ) (acts : List Act) → PurgesAlone budget (purge.Ran steps left) acts → LegalFrom z s (by Collector acts)
-    → InTable classes s.world → AllByRecursion (AnswersBy classes s.world) acts → IsDestroying s → s.collector.agreed ≡ None → HasPurged s (run s (by Collector acts)) steps
-purge_takes z classes s budget steps left acts h legal table says well none =
+purge_takes : (z : Sizes) (header : Header) (s : State) (budget steps left : ℕ) (acts : List Act) → PurgesAlone budget (purge.Ran steps left) acts → LegalFrom z s (by Collector acts)
+    → InTable header s.world → AllByRecursion (AnswersBy header s.world) acts → IsDestroying s → s.collector.agreed ≡ None → HasPurged s (run s (by Collector acts)) steps
+purge_takes z header s budget steps left acts h legal table says well none =
     let last : List Act = act.PurgeGc budget (purge.Ran steps left) ∷ [] in
     let entries : by Collector acts ≡ by Collector h.parts ++ by Collector last = ap (by Collector) h.are ∙ by-append Collector h.parts last in
     let halves = legal_split z s (by Collector h.parts) (by Collector last) (subst (LegalFrom z s) entries legal) in
     let end : State = run s (by Collector h.parts) in
     let left_is : run s (by Collector acts) ≡ run end (by Collector last) = ap (run s) entries ∙ run-append s (by Collector h.parts) (by Collector last) in
-    let agree = parts_agree z classes s.world s h.parts halves.0 table (all_front (AnswersBy classes s.world) h.parts last (subst (AllByRecursion (AnswersBy classes s.world)) h.are says)) in
+    let agree = parts_agree z header s.world s h.parts halves.0 table (all_front (AnswersBy header s.world) h.parts last (subst (AllByRecursion (AnswersBy header s.world)) h.are says)) in
     let took = takes_parts z s h.parts halves.0 well h.only agree in
     let over : end.collector.agreed ≡ None = halves.1.0.finishes in
     let first : due s.collector.agreed ≡ 0 = ap due none in
@@ -438,22 +443,22 @@ left_none [] h = refl
 left_none (r ∷ removals) h = absurd (omega (arith, h))
 
 -- they leave no removed object
-pub purges_end : (z : Sizes) (budget classes bound : ℕ) (s : State) (purges : List (List Act)) → PurgesAll budget classes bound s purges → LegalFrom z s (flat_map (by Collector) purges)
-    → InTable classes s.world → IsDestroying s → s.collector.agreed ≡ None → s.world.phase ≡ Idle → weight s.world.removals ≤ bound
+pub purges_end : (z : Sizes) (budget : ℕ) (header : Header) (bound : ℕ) (s : State) (purges : List (List Act)) → PurgesAll budget header bound s purges → LegalFrom z s (flat_map (by Collector) purges)
+    → InTable header s.world → IsDestroying s → s.collector.agreed ≡ None → s.world.phase ≡ Idle → weight s.world.removals ≤ bound
     → (run s (flat_map (by Collector) purges)).world ≡ record s.world { removals = [] }
 unfolding PurgesAll
-purges_end z budget classes bound s [] h legal table well none idle few = ap (λ (rs : List Removal). record s.world { removals = rs }) (go h)
+purges_end z budget header bound s [] h legal table well none idle few = ap (λ (rs : List Removal). record s.world { removals = rs }) (go h)
   where
     go : (left_of s.world ≡ 0) ⊎ (bound ≡ 0) → s.world.removals ≡ []
     go (inl nothing) = left_none s.world.removals (ap (λ (phase : Phase). left_in phase s.world) (sym idle) ∙ nothing)
     go (inr spent) = weight_none s.world.removals (omega (arith, few, spent))
-purges_end z budget classes bound s (acts ∷ rest) (some, more, (steps, left, call, says, others)) legal table well none idle few =
+purges_end z budget header bound s (acts ∷ rest) (some, more, (steps, left, call, says, others)) legal table well none idle few =
     let parts = legal_split z s (by Collector acts) (flat_map (by Collector) rest) legal in
     let t : State = run s (by Collector acts) in
-    let one = purge_takes z classes s (min budget bound) steps left acts call parts.0 table says well none in
-    let same : InTable classes t.world = λ n. subst (λ (w : World). (class_of w n).0 < classes) (sym one.rest) (table n) in
+    let one = purge_takes z header s (min budget bound) steps left acts call parts.0 table says well none in
+    let same : InTable header t.world = record { known = λ n. subst (λ (w : World). (class_of w n).0 < length header.classes.classes) (sym one.rest) (table.known n); at_once = table.at_once } in
     let still : t.world.phase ≡ Idle = ap (λ (w : World). w.phase) one.rest ∙ idle in
     let fewer : weight t.world.removals ≤ bound - steps = let l = one.less in omega (arith, l, few) in
     ap (λ (u : State). u.world) (run-append s (by Collector acts) (flat_map (by Collector) rest))
-    ∙ purges_end z budget classes (bound - steps) t rest others parts.1 same one.well one.none still fewer
+    ∙ purges_end z budget header (bound - steps) t rest others parts.1 same one.well one.none still fewer
     ∙ ap (λ (w : World). record w { removals = [] }) one.rest

@@ -12,6 +12,7 @@ use Rattle.level_script.specs.declared.cause.ParseErr.TheVariants as parse
 use Rattle.level_script.specs.declared.cause.ScriptErr.{ScriptErr}
 use Rattle.level_script.specs.declared.limits.Limits.{Limits}
 use Rattle.level_script.specs.declared.script.Script.{Script}
+use Rattle.world_play.specs.Header.{Header}
 use Rattle.world_play.specs.Streams.{Read, Gained, line_feeds}
 use Rattle.play_io.specs.Faults.{Rose}
 use Rattle.world_model.specs.Sizes.{Sizes}
@@ -33,7 +34,7 @@ use Rattle.level_script.specs.Frames.{are_framed, IsPlayable}
 use Rattle.world_model.proofs.ListFacts.{and_true}
 use Rattle.world_play.specs.Laws.{HasClass, OneText}
 use Rattle.world_play.specs.Turns.{Stops, Played, Stopped}
-use Rattle.world_play.specs.Ends.{limits_in, history_of, IsScript, HasFault, WasTaken, Refuses, WritesFault, HasRun, WasPlayed, OnDone, OnStopped, SaysScript, Headline, EndsEarly, WritesOutcome, CountsLines, TellsScript}
+use Rattle.world_play.specs.Ends.{header_of, limits_in, history_of, IsScript, HasFault, WasTaken, Refuses, WritesFault, HasRun, WasPlayed, OnDone, OnStopped, SaysScript, Headline, EndsEarly, WritesOutcome, CountsLines, TellsScript}
 use Rattle.world_play.specs.declared.status.Status.{Status}
 use Rattle.world_play.specs.declared.status.Status.TheVariants as status
 use Rattle.world_play.specs.declared.run.Run.{Run}
@@ -107,21 +108,21 @@ not_both bytes limits script fault is said = go (outcome_of bytes limits) is sai
 -- ---- the text of lines that were played
 
 -- the text of lines has one line feed for each
-pub text_feeds : (budget classes : ℕ) (s : State) (names last : Bindings) (lines : List Line) (pieces : List (List Entry)) → Plays budget classes s names lines pieces last → line_feeds (text s lines pieces) ≡ length lines
+pub text_feeds : (budget : ℕ) (header : Header) (s : State) (names last : Bindings) (lines : List Line) (pieces : List (List Entry)) → Plays budget header s names lines pieces last → line_feeds (text s lines pieces) ≡ length lines
 unfolding Plays text
-text_feeds budget classes s names last [] [] plays = refl
-text_feeds budget classes s names last (l ∷ lines) (p ∷ pieces) plays =
+text_feeds budget header s names last [] [] plays = refl
+text_feeds budget header s names last (l ∷ lines) (p ∷ pieces) plays =
     let first : line_feeds (text_of (reply_in s l.who p)) ≡ 1 = one_feed _ (is_line (reply_in s l.who p)) in
-    let rest : line_feeds (text (run s p) lines pieces) ≡ length lines = text_feeds budget classes (run s p) _ last lines pieces plays.1 in
+    let rest : line_feeds (text (run s p) lines pieces) ≡ length lines = text_feeds budget header (run s p) _ last lines pieces plays.1 in
     omega (arith, first, rest, feeds_append (text_of (reply_in s l.who p)) (text (run s p) lines pieces))
-text_feeds budget classes s names last [] (p ∷ pieces) plays = absurd plays
-text_feeds budget classes s names last (l ∷ lines) [] plays = absurd plays
+text_feeds budget header s names last [] (p ∷ pieces) plays = absurd plays
+text_feeds budget header s names last (l ∷ lines) [] plays = absurd plays
 
 -- a beginning of a reply has none
-stops_plain : (budget classes : ℕ) (s : State) (names : Bindings) (rest : List Line) (part : List Entry) (some : List ℕ) → Stops budget classes s names rest part some → line_feeds some ≡ 0
-stops_plain budget classes s names [] part some h = ap line_feeds h.1
-stops_plain budget classes s names (l ∷ ls) part some (inl (made, none)) = ap line_feeds none
-stops_plain budget classes s names (l ∷ ls) part some (inr (made, start)) = start_plain some _ start (is_line (reply_in s l.who part))
+stops_plain : (budget : ℕ) (header : Header) (s : State) (names : Bindings) (rest : List Line) (part : List Entry) (some : List ℕ) → Stops budget header s names rest part some → line_feeds some ≡ 0
+stops_plain budget header s names [] part some h = ap line_feeds h.1
+stops_plain budget header s names (l ∷ ls) part some (inl (made, none)) = ap line_feeds none
+stops_plain budget header s names (l ∷ ls) part some (inr (made, start)) = start_plain some _ start (is_line (reply_in s l.who part))
 
 -- so the number of replies that were put is that of the line feeds
 counts_gained : (had has : Option (List ℕ)) (bytes : List ℕ) (count : ℕ) → Gained had has bytes → count ≡ line_feeds bytes → CountsLines had has count
@@ -131,14 +132,14 @@ counts_gained (Some xs) has bytes count put e = (bytes, put, e)
 counts_none : (had has : Option (List ℕ)) (count : ℕ) → has ≡ had → count ≡ 0 → CountsLines had has count
 counts_none had has count same none = counts_gained had has [] count (subst (λ (now : Option (List ℕ)). Gained had now []) (sym same) (gained_none had)) none
 
-counts_all : (z : Sizes) (budget classes : ℕ) (lines : List Line) (history : List Entry) (had has : Option (List ℕ)) (count : ℕ) → Played z budget classes lines history had has → count ≡ length lines → CountsLines had has count
-counts_all z budget classes lines history had has count h number =
-    counts_gained had has (text beginning lines h.pieces) count h.put (number ∙ sym (text_feeds budget classes beginning no_bindings h.last lines h.pieces h.plays))
+counts_all : (z : Sizes) (budget : ℕ) (header : Header) (lines : List Line) (history : List Entry) (had has : Option (List ℕ)) (count : ℕ) → Played z budget header lines history had has → count ≡ length lines → CountsLines had has count
+counts_all z budget header lines history had has count h number =
+    counts_gained had has (text beginning lines h.pieces) count h.put (number ∙ sym (text_feeds budget header beginning no_bindings h.last lines h.pieces h.plays))
 
-counts_some : (z : Sizes) (budget classes : ℕ) (lines : List Line) (history : List Entry) (had has : Option (List ℕ)) (count : ℕ) → Stopped z budget classes lines history had has count → CountsLines had has count
-counts_some z budget classes lines history had has count h =
-    let whole : line_feeds (text beginning h.whole h.pieces) ≡ length h.whole = text_feeds budget classes beginning no_bindings h.names h.whole h.pieces h.plays in
-    let rest : line_feeds h.some ≡ 0 = stops_plain budget classes _ h.names h.rest h.part h.some h.stops in
+counts_some : (z : Sizes) (budget : ℕ) (header : Header) (lines : List Line) (history : List Entry) (had has : Option (List ℕ)) (count : ℕ) → Stopped z budget header lines history had has count → CountsLines had has count
+counts_some z budget header lines history had has count h =
+    let whole : line_feeds (text beginning h.whole h.pieces) ≡ length h.whole = text_feeds budget header beginning no_bindings h.names h.whole h.pieces h.plays in
+    let rest : line_feeds h.some ≡ 0 = stops_plain budget header _ h.names h.rest h.part h.some h.stops in
     counts_gained had has (text beginning h.whole h.pieces ++ h.some) count h.put (omega (arith, h.number, whole, rest, feeds_append (text beginning h.whole h.pieces) h.some))
 
 -- ---- what a run that played says of the whole of it
@@ -173,28 +174,28 @@ headline_of w status.Memory left now script r had has count is taken h = tt
 -- ---- the classes of a script that can be played
 
 -- the class of a line that fits is there
-fits_class : (vars : List ℕ) (classes : ℕ) (frames : List Bool) (w : Who) (what : Cmd) → frame.fits vars classes frames w what ≡ true → HasClass classes what
-fits_class vars classes frames (who.Lane lane) (cmd.New var class) h =
+fits_class : (vars : List ℕ) (header : Header) (frames : List Bool) (w : Who) (what : Cmd) → frame.fits vars (length header.classes.classes) frames w what ≡ true → HasClass header what
+fits_class vars header frames (who.Lane lane) (cmd.New var class) h =
     let parts = and_true (nat_lt lane (length frames)) _ h in
-    let last : nat_lt class.0 classes ≡ true = (and_true (slice_index_or frames lane false && nat_lt var (slice_index vars lane)) (nat_lt class.0 classes) parts.1).1 in
+    let last : nat_lt class.0 (length header.classes.classes) ≡ true = (and_true (slice_index_or frames lane false && nat_lt var (slice_index vars lane)) (nat_lt class.0 (length header.classes.classes)) parts.1).1 in
     grind (arith, nat_tests, last)
-fits_class vars classes frames who.Gc (cmd.New var class) h = absurd cc
-fits_class vars classes frames w cmd.Open h = tt
-fits_class vars classes frames w cmd.Close h = tt
-fits_class vars classes frames w (cmd.Root var on) h = tt
-fits_class vars classes frames w cmd.GcFull h = tt
+fits_class vars header frames who.Gc (cmd.New var class) h = absurd cc
+fits_class vars header frames w cmd.Open h = tt
+fits_class vars header frames w cmd.Close h = tt
+fits_class vars header frames w (cmd.Root var on) h = tt
+fits_class vars header frames w cmd.GcFull h = tt
 
-framed_classes : (vars : List ℕ) (classes : ℕ) (frames : List Bool) (lines : List Line) → are_framed vars classes frames lines ≡ true → AllByRecursion (λ l. HasClass classes l.cmd) lines
+framed_classes : (vars : List ℕ) (header : Header) (frames : List Bool) (lines : List Line) → are_framed vars (length header.classes.classes) frames lines ≡ true → AllByRecursion (λ l. HasClass header l.cmd) lines
 unfolding are_framed
-framed_classes vars classes frames [] h = tt
-framed_classes vars classes frames (l ∷ lines) h =
-    let parts = and_true (frame.fits vars classes frames l.who l.cmd) _ h in
-    (fits_class vars classes frames l.who l.cmd parts.0, framed_classes vars classes (frame.frames_after frames l.who l.cmd) lines parts.1)
+framed_classes vars header frames [] h = tt
+framed_classes vars header frames (l ∷ lines) h =
+    let parts = and_true (frame.fits vars (length header.classes.classes) frames l.who l.cmd) _ h in
+    (fits_class vars header frames l.who l.cmd parts.0, framed_classes vars header (frame.frames_after frames l.who l.cmd) lines parts.1)
 
-outcome_played : OneText → (z : Sizes) (budget : ℕ) (limits : Limits) (script : Script) (history : List Entry) (had has : Option (List ℕ)) → IsPlayable limits script → Played z budget (length script.classes) script.lines history had has → Gained had has (outcome z script.lines)
+outcome_played : OneText → (z : Sizes) (budget : ℕ) (limits : Limits) (script : Script) (history : List Entry) (had has : Option (List ℕ)) → IsPlayable limits script → Played z budget (header_of script) script.lines history had has → Gained had has (outcome z (header_of script) script.lines)
 outcome_played law z budget limits script history had has can h =
     subst (Gained had has)
-    (law z budget (length script.classes) script.lines h.pieces h.last can.classes (framed_classes script.vars (length script.classes) _ script.lines can.framed) (subst (Legal z) h.cut h.legal) h.plays)
+    (law z budget (header_of script) script.lines h.pieces h.last can.classes can.at_once (framed_classes script.vars (header_of script) _ script.lines can.framed) (subst (Legal z) h.cut h.legal) h.plays)
     h.put
 
 pub outcome_of_run : OneText → (w : Words) (how : Status) (left : Option (List ℕ)) (script : Script) (r : Option Run) (had has : Option (List ℕ)) (count : ℕ) → IsPlayable (limits_in w.shape) script → IsScript (limits_in w.shape) left script → HasRun how r → PlayedAs w how script r had has count → OnDone how (WritesOutcome w.shape left had has)
@@ -207,7 +208,7 @@ outcome_of_run law w status.ReadFault left script r had has count can is there h
 outcome_of_run law w status.WriteFault left script r had has count can is there h = tt
 outcome_of_run law w status.Memory left script r had has count can is there h = tt
 
-ends_early : (w : Words) (left : Option (List ℕ)) (script : Script) (engine : Run) (had has : Option (List ℕ)) (count : ℕ) → IsScript (limits_in w.shape) left script → Stopped (sizes_of w.shape) w.slice (length script.classes) script.lines (history_of engine) had has count → EndsEarly w left had has count engine
+ends_early : (w : Words) (left : Option (List ℕ)) (script : Script) (engine : Run) (had has : Option (List ℕ)) (count : ℕ) → IsScript (limits_in w.shape) left script → Stopped (sizes_of w.shape) w.slice (header_of script) script.lines (history_of engine) had has count → EndsEarly w left had has count engine
 ends_early w None script engine had has count is h = tt
 ends_early w (Some input) script engine had has count is h = (script, is, h)
 

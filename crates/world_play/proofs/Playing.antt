@@ -4,6 +4,7 @@ use Rattle.std.specs.Prelude.{nat_lt, slice_index}
 use Rattle.std.proofs.lemmas.Bool.Decides.{nat_tests}
 use Rattle.std.proofs.lemmas.List.{set-get_or, length-set, length-take, take-append-drop}
 use Rattle.std.proofs.lemmas.Grind.{flat_map-append}
+use Rattle.world_play.specs.Header.{Header}
 use Rattle.world_play.specs.Text.{text_of}
 use Rattle.world_model.specs.Sizes.{Sizes}
 use Rattle.world_model.specs.State.{State, beginning}
@@ -28,9 +29,9 @@ use Rattle.world_play.proofs.Streams.{gained_none, gained_both}
 use Rattle.world_play.proofs.Lines.{start_none}
 
 -- a whole collection is a line of the collector
-pub gc_turned : (z : Sizes) (budget classes : ℕ) (old new : List Entry) (before now : Holdings) (lanes : List LaneVariables) (played : ℕ) (what : Cmd) (r : Reply) → fits_by z.lanes (numbers_of lanes) classes (frames_of (after old)) who.Gc what ≡ true → AreKept before lanes played
-    → Collects z budget classes old new before now r → Turned z budget classes old new now lanes lanes played who.Gc what r
-gc_turned z budget classes old new before now lanes played cmd.GcFull r fit kept h = record {
+pub gc_turned : (z : Sizes) (budget : ℕ) (header : Header) (old new : List Entry) (before now : Holdings) (lanes : List LaneVariables) (played : ℕ) (what : Cmd) (r : Reply) → fits_by z.lanes (numbers_of lanes) header (frames_of (after old)) who.Gc what ≡ true → AreKept before lanes played
+    → Collects z budget header old new before now r → Turned z budget header old new now lanes lanes played who.Gc what r
+gc_turned z budget header old new before now lanes played cmd.GcFull r fit kept h = record {
   turn = (h.piece, h.grown, (h.calls, h.answer, refl));
   frames = ap (λ opened. frames_of (record (after new) { opened = opened })) h.opened;
   numbers = refl;
@@ -38,39 +39,39 @@ gc_turned z budget classes old new before now lanes played cmd.GcFull r fit kept
   alone = h.alone;
   kept = kept_on before now lanes played h.held kept;
 }
-gc_turned z budget classes old new before now lanes played what r fit kept h = absurd cc
+gc_turned z budget header old new before now lanes played what r fit kept h = absurd cc
 
 -- so is one that was not told to its end
-pub gc_broken : (z : Sizes) (budget classes : ℕ) (old new : List Entry) (names : Bindings) (what : Cmd) → fits_gc what ≡ true → Broken z budget classes old new names who.Gc cmd.GcFull → Broken z budget classes old new names who.Gc what
-gc_broken z budget classes old new names cmd.GcFull fit h = h
-gc_broken z budget classes old new names what fit h = absurd cc
+pub gc_broken : (z : Sizes) (budget : ℕ) (header : Header) (old new : List Entry) (names : Bindings) (what : Cmd) → fits_gc what ≡ true → Broken z budget header old new names who.Gc cmd.GcFull → Broken z budget header old new names who.Gc what
+gc_broken z budget header old new names cmd.GcFull fit h = h
+gc_broken z budget header old new names what fit h = absurd cc
 
 -- ---- line after line
 
-pub plays_none : (budget classes : ℕ) (s : State) (names : Bindings) → Plays budget classes s names [] [] names
+pub plays_none : (budget : ℕ) (header : Header) (s : State) (names : Bindings) → Plays budget header s names [] [] names
 unfolding Plays
-plays_none budget classes s names = refl
+plays_none budget header s names = refl
 
-pub plays_more : (budget classes : ℕ) (s : State) (names mid new : Bindings) (ls : List Line) (l : Line) (ps : List (List Entry)) (p : List Entry) (r : Reply)
-    → Plays budget classes s names ls ps mid → TurnBy budget classes (run s (entries_of ps)) mid l.who l.cmd p r new → Plays budget classes s names (ls ++ l ∷ []) (ps ++ p ∷ []) new
+pub plays_more : (budget : ℕ) (header : Header) (s : State) (names mid new : Bindings) (ls : List Line) (l : Line) (ps : List (List Entry)) (p : List Entry) (r : Reply)
+    → Plays budget header s names ls ps mid → TurnBy budget header (run s (entries_of ps)) mid l.who l.cmd p r new → Plays budget header s names (ls ++ l ∷ []) (ps ++ p ∷ []) new
 unfolding Plays
-plays_more budget classes s names mid new [] l [] p r was turn = (subst (λ (n : Bindings). IsPiece budget classes s n l.who l.cmd p) was turn.0, turn.2 ∙ λ i. names_after (was i) l.who l.cmd (turn.1 i))
-plays_more budget classes s names mid new (x ∷ xs) l (q ∷ ps) p r was turn =
-    (was.0, plays_more budget classes (run s q) _ mid new xs l ps p r was.1 (subst (λ (t : State). TurnBy budget classes t mid l.who l.cmd p r new) (run-append s q (entries_of ps)) turn))
-plays_more budget classes s names mid new [] l (q ∷ ps) p r was turn = absurd was
-plays_more budget classes s names mid new (x ∷ xs) l [] p r was turn = absurd was
+plays_more budget header s names mid new [] l [] p r was turn = (subst (λ (n : Bindings). IsPiece budget header s n l.who l.cmd p) was turn.0, turn.2 ∙ λ i. names_after (was i) l.who l.cmd (turn.1 i))
+plays_more budget header s names mid new (x ∷ xs) l (q ∷ ps) p r was turn =
+    (was.0, plays_more budget header (run s q) _ mid new xs l ps p r was.1 (subst (λ (t : State). TurnBy budget header t mid l.who l.cmd p r new) (run-append s q (entries_of ps)) turn))
+plays_more budget header s names mid new [] l (q ∷ ps) p r was turn = absurd was
+plays_more budget header s names mid new (x ∷ xs) l [] p r was turn = absurd was
 
 -- the text of one more line
-pub text_more : (budget classes : ℕ) (s : State) (names mid : Bindings) (ls : List Line) (l : Line) (ps : List (List Entry)) (p : List Entry) → Plays budget classes s names ls ps mid
+pub text_more : (budget : ℕ) (header : Header) (s : State) (names mid : Bindings) (ls : List Line) (l : Line) (ps : List (List Entry)) (p : List Entry) → Plays budget header s names ls ps mid
     → text s (ls ++ l ∷ []) (ps ++ p ∷ []) ≡ text s ls ps ++ text_of (reply_in (run s (entries_of ps)) l.who p)
 unfolding Plays text
-text_more budget classes s names mid [] l [] p was = append-nil _
-text_more budget classes s names mid (x ∷ xs) l (q ∷ ps) p was =
-    ap (λ (t : List ℕ). text_of (reply_in s x.who q) ++ t) (text_more budget classes (run s q) _ mid xs l ps p was.1)
+text_more budget header s names mid [] l [] p was = append-nil _
+text_more budget header s names mid (x ∷ xs) l (q ∷ ps) p was =
+    ap (λ (t : List ℕ). text_of (reply_in s x.who q) ++ t) (text_more budget header (run s q) _ mid xs l ps p was.1)
     ∙ sym (append_assoc (text_of (reply_in s x.who q)) (text (run s q) xs ps) (text_of (reply_in (run (run s q) (entries_of ps)) l.who p)))
     ∙ ap (λ (t : State). (text_of (reply_in s x.who q) ++ text (run s q) xs ps) ++ text_of (reply_in t l.who p)) (sym (run-append s q (entries_of ps)))
-text_more budget classes s names mid [] l (q ∷ ps) p was = absurd was
-text_more budget classes s names mid (x ∷ xs) l [] p was = absurd was
+text_more budget header s names mid [] l (q ∷ ps) p was = absurd was
+text_more budget header s names mid (x ∷ xs) l [] p was = absurd was
 
 -- the entries of one more piece
 pub entries_more : (ps : List (List Entry)) (p : List Entry) → entries_of (ps ++ p ∷ []) ≡ entries_of ps ++ p
@@ -87,26 +88,26 @@ no_part budget s who.Gc (cmd.New var class) = refl
 no_part budget s who.Gc (cmd.Root var on) = refl
 no_part budget s (who.Lane lane) what = refl
 
-pub stops_none : (budget classes : ℕ) (s : State) (names : Bindings) (lines : List Line) → Stops budget classes s names lines [] []
-stops_none budget classes s names [] = (refl, refl)
-stops_none budget classes s names (l ∷ ls) = inl (no_part budget s l.who l.cmd, refl)
+pub stops_none : (budget : ℕ) (header : Header) (s : State) (names : Bindings) (lines : List Line) → Stops budget header s names lines [] []
+stops_none budget header s names [] = (refl, refl)
+stops_none budget header s names (l ∷ ls) = inl (no_part budget s l.who l.cmd, refl)
 
 -- a line of which some calls were made, or all, and whose reply was not put
-pub breaks : (z : Sizes) (budget classes : ℕ) (old new : List Entry) (names : Bindings) (l : Line) (held : Option (List ℕ)) → Broken z budget classes old new names l.who l.cmd → Unanswered z budget classes old new names l held held
-breaks z budget classes old new names l held h = record { part = h.part; some = []; grown = h.grown; stops = go h.made; legal = h.legal; put = gained_none held }
+pub breaks : (z : Sizes) (budget : ℕ) (header : Header) (old new : List Entry) (names : Bindings) (l : Line) (held : Option (List ℕ)) → Broken z budget header old new names l.who l.cmd → Unanswered z budget header old new names l held held
+breaks z budget header old new names l held h = record { part = h.part; some = []; grown = h.grown; stops = go h.made; legal = h.legal; put = gained_none held }
   where
-    go : IsPart budget (state_of old) l.who l.cmd h.part ⊎ IsPiece budget classes (state_of old) names l.who l.cmd h.part → Stops budget classes (state_of old) names (l ∷ []) h.part []
+    go : IsPart budget (state_of old) l.who l.cmd h.part ⊎ IsPiece budget header (state_of old) names l.who l.cmd h.part → Stops budget header (state_of old) names (l ∷ []) h.part []
     go (inl part) = inl (part, refl)
     go (inr piece) = inr (piece, start_none _)
 
 -- a line all of whose calls were made
-pub turned_broken : (z : Sizes) (budget classes : ℕ) (old new : List Entry) (holds : Holdings) (before now : List LaneVariables) (played : ℕ) (w : Who) (what : Cmd) (r : Reply) → Turned z budget classes old new holds before now played w what r → Broken z budget classes old new (shown before) w what
-turned_broken z budget classes old new holds before now played w what r t = record { part = t.turn.0; grown = t.turn.1; made = inr t.turn.2.0; legal = t.legal }
+pub turned_broken : (z : Sizes) (budget : ℕ) (header : Header) (old new : List Entry) (holds : Holdings) (before now : List LaneVariables) (played : ℕ) (w : Who) (what : Cmd) (r : Reply) → Turned z budget header old new holds before now played w what r → Broken z budget header old new (shown before) w what
+turned_broken z budget header old new holds before now played w what r t = record { part = t.turn.0; grown = t.turn.1; made = inr t.turn.2.0; legal = t.legal }
 
 -- a line whose reply was put in part
-pub puts_part : (z : Sizes) (budget classes : ℕ) (old new : List Entry) (holds : Holdings) (before now : List LaneVariables) (played : ℕ) (l : Line) (r : Reply) (had has : Option (List ℕ))
-    → Turned z budget classes old new holds before now played l.who l.cmd r → GainedStart had has (text_of r) → Unanswered z budget classes old new (shown before) l had has
-puts_part z budget classes old new holds before now played l r had has t g = record {
+pub puts_part : (z : Sizes) (budget : ℕ) (header : Header) (old new : List Entry) (holds : Holdings) (before now : List LaneVariables) (played : ℕ) (l : Line) (r : Reply) (had has : Option (List ℕ))
+    → Turned z budget header old new holds before now played l.who l.cmd r → GainedStart had has (text_of r) → Unanswered z budget header old new (shown before) l had has
+puts_part z budget header old new holds before now played l r had has t g = record {
   part = t.turn.0;
   some = g.0;
   grown = t.turn.1;
@@ -116,10 +117,10 @@ puts_part z budget classes old new holds before now played l r had has t g = rec
 }
 
 -- the first lines were played, and the next one was not answered
-pub stopped_at : (z : Sizes) (budget classes : ℕ) (lines : List Line) (i : ℕ) (d : Line) (pieces : List (List Entry)) (names : Bindings) (old new : List Entry) (had mid has : Option (List ℕ)) (count : ℕ) → i < length lines
-    → Plays budget classes beginning no_bindings (take i lines) pieces names → old ≡ entries_of pieces → Gained had mid (text beginning (take i lines) pieces) → count ≡ i
-    → Unanswered z budget classes old new names (get_or lines i d) mid has → Stopped z budget classes lines new had has count
-stopped_at z budget classes lines i d pieces names old new had mid has count inside plays cut put number h = record {
+pub stopped_at : (z : Sizes) (budget : ℕ) (header : Header) (lines : List Line) (i : ℕ) (d : Line) (pieces : List (List Entry)) (names : Bindings) (old new : List Entry) (had mid has : Option (List ℕ)) (count : ℕ) → i < length lines
+    → Plays budget header beginning no_bindings (take i lines) pieces names → old ≡ entries_of pieces → Gained had mid (text beginning (take i lines) pieces) → count ≡ i
+    → Unanswered z budget header old new names (get_or lines i d) mid has → Stopped z budget header lines new had has count
+stopped_at z budget header lines i d pieces names old new had mid has count inside plays cut put number h = record {
   whole = take i lines;
   rest = get_or lines i d ∷ drop (suc i) lines;
   pieces = pieces;
@@ -130,15 +131,15 @@ stopped_at z budget classes lines i d pieces names old new had mid has count ins
   are = sym (take-append-drop i lines) ∙ ap (λ (ls : List Line). take i lines ++ ls) (drop-cons lines i d inside);
   cut = h.grown ∙ ap (λ (es : List Entry). es ++ h.part) cut;
   plays = plays;
-  stops = subst (λ (es : List Entry). Stops budget classes (state_of es) names (get_or lines i d ∷ drop (suc i) lines) h.part h.some) cut h.stops;
+  stops = subst (λ (es : List Entry). Stops budget header (state_of es) names (get_or lines i d ∷ drop (suc i) lines) h.part h.some) cut h.stops;
   put = gained_both had mid has (text beginning (take i lines) pieces) h.some put h.put;
   number = omega (arith, number, length-take i lines);
 }
 
 -- nothing was played
-pub stopped_first : (z : Sizes) (budget classes : ℕ) (lines : List Line) (history : List Entry) (held : Option (List ℕ)) (count : ℕ) → history ≡ [] → count ≡ 0 → Stopped z budget classes lines history held held count
+pub stopped_first : (z : Sizes) (budget : ℕ) (header : Header) (lines : List Line) (history : List Entry) (held : Option (List ℕ)) (count : ℕ) → history ≡ [] → count ≡ 0 → Stopped z budget header lines history held held count
 unfolding text
-stopped_first z budget classes lines history held count none zero_lines = record {
+stopped_first z budget header lines history held count none zero_lines = record {
   whole = [];
   rest = lines;
   pieces = [];
@@ -148,19 +149,19 @@ stopped_first z budget classes lines history held count none zero_lines = record
   legal = subst (Legal z) (sym none) tt;
   are = refl;
   cut = none;
-  plays = plays_none budget classes beginning no_bindings;
-  stops = stops_none budget classes beginning no_bindings lines;
+  plays = plays_none budget header beginning no_bindings;
+  stops = stops_none budget header beginning no_bindings lines;
   put = gained_none held;
   number = zero_lines;
 }
 
-pub fit_first : (lanes : ℕ) (vars : List ℕ) (classes : ℕ) (opened : ℕ → Bool) (l : Line) (ls : List Line) → are_fit lanes vars classes opened (l ∷ ls) ≡ true → (fits lanes vars classes opened l ≡ true) × (are_fit lanes vars classes (frames_after opened l) ls ≡ true)
+pub fit_first : (lanes : ℕ) (vars : List ℕ) (header : Header) (opened : ℕ → Bool) (l : Line) (ls : List Line) → are_fit lanes vars header opened (l ∷ ls) ≡ true → (fits lanes vars header opened l ≡ true) × (are_fit lanes vars header (frames_after opened l) ls ≡ true)
 unfolding are_fit
-fit_first lanes vars classes opened l ls e = and_true (fits lanes vars classes opened l) (are_fit lanes vars classes (frames_after opened l) ls) e
+fit_first lanes vars header opened l ls e = and_true (fits lanes vars header opened l) (are_fit lanes vars header (frames_after opened l) ls) e
 
-pub fit_at : (lanes : ℕ) (vars : List ℕ) (classes : ℕ) (opened : ℕ → Bool) (ls : List Line) (i : ℕ) (d : Line) → i < length ls → are_fit lanes vars classes opened (drop i ls) ≡ true
-    → (fits lanes vars classes opened (get_or ls i d) ≡ true) × (are_fit lanes vars classes (frames_after opened (get_or ls i d)) (drop (i + 1) ls) ≡ true)
-fit_at lanes vars classes opened ls i d h e = rw add-one (fit_first lanes vars classes opened (get_or ls i d) _ (sym (ap (are_fit lanes vars classes opened) (drop-cons ls i d h)) ∙ e))
+pub fit_at : (lanes : ℕ) (vars : List ℕ) (header : Header) (opened : ℕ → Bool) (ls : List Line) (i : ℕ) (d : Line) → i < length ls → are_fit lanes vars header opened (drop i ls) ≡ true
+    → (fits lanes vars header opened (get_or ls i d) ≡ true) × (are_fit lanes vars header (frames_after opened (get_or ls i d)) (drop (i + 1) ls) ≡ true)
+fit_at lanes vars header opened ls i d h e = rw add-one (fit_first lanes vars header opened (get_or ls i d) _ (sym (ap (are_fit lanes vars header opened) (drop-cons ls i d h)) ∙ e))
 
 -- ---- the frames of a script
 
@@ -183,25 +184,25 @@ after_lane frames opened lane (cmd.Root var on) h same j = ap (λ (fs : List Boo
 after_lane frames opened lane cmd.GcFull h same j = ap (λ (fs : List Bool). get_or fs j false) (set-get_or frames lane false) ∙ same j
 
 -- a line that is framed by list fits by number, and the frames after it are alike
-fit_step : (vars : List ℕ) (classes lanes : ℕ) (frames : List Bool) (opened : ℕ → Bool) (w : Who) (what : Cmd) → length frames ≡ lanes → SameFrames frames opened → frame.fits vars classes frames w what ≡ true
-    → (fits_by lanes vars classes opened w what ≡ true) × SameFrames (frame.frames_after frames w what) (frames_by opened w what) × (length (frame.frames_after frames w what) ≡ lanes)
-fit_step vars classes lanes frames opened (who.Lane lane) what count same h =
+fit_step : (vars : List ℕ) (header : Header) (lanes : ℕ) (frames : List Bool) (opened : ℕ → Bool) (w : Who) (what : Cmd) → length frames ≡ lanes → SameFrames frames opened → frame.fits vars (length header.classes.classes) frames w what ≡ true
+    → (fits_by lanes vars header opened w what ≡ true) × SameFrames (frame.frames_after frames w what) (frames_by opened w what) × (length (frame.frames_after frames w what) ≡ lanes)
+fit_step vars header lanes frames opened (who.Lane lane) what count same h =
     let parts = and_true (nat_lt lane (length frames)) _ h in
     let there : nat_lt lane (length frames) ≡ true = parts.0 in
     let inside : lane < length frames = grind (arith, nat_tests, there) in
     let first : nat_lt lane lanes ≡ true = grind (arith, nat_tests, inside, count) in
-    let second : fits_lane (slice_index vars lane) classes (opened lane) what ≡ true = subst (λ (b : Bool). fits_lane (slice_index vars lane) classes b what ≡ true) (same lane) parts.1 in
+    let second : fits_lane (slice_index vars lane) (length header.classes.classes) (opened lane) what ≡ true = subst (λ (b : Bool). fits_lane (slice_index vars lane) (length header.classes.classes) b what ≡ true) (same lane) parts.1 in
     (rw (first, second) refl, after_lane frames opened lane what inside same, length-set frames lane _ ∙ count)
-fit_step vars classes lanes frames opened who.Gc what count same h = (h, same, count)
+fit_step vars header lanes frames opened who.Gc what count same h = (h, same, count)
 
 -- lines that are framed by list fit by number
-pub framed_fit : (vars : List ℕ) (classes lanes : ℕ) (frames : List Bool) (opened : ℕ → Bool) (lines : List Line) → length frames ≡ lanes → SameFrames frames opened → are_framed vars classes frames lines ≡ true → are_fit lanes vars classes opened lines ≡ true
+pub framed_fit : (vars : List ℕ) (header : Header) (lanes : ℕ) (frames : List Bool) (opened : ℕ → Bool) (lines : List Line) → length frames ≡ lanes → SameFrames frames opened → are_framed vars (length header.classes.classes) frames lines ≡ true → are_fit lanes vars header opened lines ≡ true
 unfolding are_framed are_fit
-framed_fit vars classes lanes frames opened [] count same h = refl
-framed_fit vars classes lanes frames opened (l ∷ lines) count same h =
-    let parts = and_true (frame.fits vars classes frames l.who l.cmd) _ h in
-    let step = fit_step vars classes lanes frames opened l.who l.cmd count same parts.0 in
-    let rest = framed_fit vars classes lanes (frame.frames_after frames l.who l.cmd) (frames_by opened l.who l.cmd) lines step.2 step.1 parts.1 in
+framed_fit vars header lanes frames opened [] count same h = refl
+framed_fit vars header lanes frames opened (l ∷ lines) count same h =
+    let parts = and_true (frame.fits vars (length header.classes.classes) frames l.who l.cmd) _ h in
+    let step = fit_step vars header lanes frames opened l.who l.cmd count same parts.0 in
+    let rest = framed_fit vars header lanes (frame.frames_after frames l.who l.cmd) (frames_by opened l.who l.cmd) lines step.2 step.1 parts.1 in
     rw (step.0, rest) refl
 
 -- at the beginning all frames are closed

@@ -18,6 +18,7 @@ use Rattle.world_model.proofs.NameFacts.{same_name_true, has_among, among_has}
 use Rattle.world_model.proofs.Joins.{run-append, by-append, legal_split, legal_join}
 use Rattle.world_model.proofs.Collections.{all_append, keeps_mark, slices_mark, collect_is_exact_holds}
 use Rattle.world_model.proofs.Progress.{marks_leave}
+use Rattle.world_play.specs.Header.{Header}
 use Rattle.world_play.specs.Types.{Name, Phase, Idle, Marking, Swept, SweepStop, Pass, Marker, Collector, Act, Entry}
 use Rattle.world_play.specs.Types.act
 use Rattle.world_play.specs.Types.begin
@@ -210,8 +211,8 @@ pub record HasCollected (w : World) (piece : List Entry) (new : World) : Type 0 
   pub scene : scene_of new ≡ collected (scene_of w)
   pub calm : IsCalm new
 
-module _ (z : Sizes) (budget classes : ℕ) (old piece : List Entry) (before : Legal z old) (calm : IsCalm (after old)) (table : InTable classes (after old))
-    (whole : LegalFrom z (state_of old) piece) (h : Collected budget classes (state_of old) piece) where
+module _ (z : Sizes) (budget : ℕ) (header : Header) (old piece : List Entry) (before : Legal z old) (calm : IsCalm (after old)) (table : InTable header (after old))
+    (whole : LegalFrom z (state_of old) piece) (h : Collected budget header (state_of old) piece) where
   abbrev s : State
   s = state_of old
 
@@ -323,8 +324,8 @@ module _ (z : Sizes) (budget classes : ℕ) (old piece : List Entry) (before : L
   ended : (run s piece).world ≡ record swept.world { removals = [] }
   ended =
       ap (λ (t : State). t.world) (ap (run s) h.are ∙ run-append s h.front ends)
-      ∙ purges_end z budget classes (103 * length swept.world.found) swept h.purges h.purged legal_parts.1
-      (λ n. subst (λ (v : World). (class_of v n).0 < classes) (sym has_found.world) (table n))
+      ∙ purges_end z budget header (103 * length swept.world.found) swept h.purges h.purged legal_parts.1
+      (record { known = λ n. subst (λ (v : World). (class_of v n).0 < length header.classes.classes) (sym has_found.world) (table.known n); at_once = table.at_once })
       (record { different = ap all_different names_gone ∙ gone_different; agreed = λ n e. absurd (none_some swept.collector.agreed n none_agreed e) })
       none_agreed (ap (λ (v : World). v.phase) has_found.world) few
 

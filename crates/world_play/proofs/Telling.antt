@@ -1,6 +1,6 @@
 -- However a legal history plays a whole script, each line tells and leaves what the outcome of the script says.
 use Rattle.std.proofs.Common.{◌≡◌, ◌≢◌, ℕ, ◌+◌, ◌-◌, ◌<◌, ◌≤◌, ◌==◌, refl, sym, subst, ap, ◌∙◌, inl, inr, zero, suc, arith, Bool, cond, true, false, List, [], ◌∷◌, ◌++◌, length, Option, Some, None, count_by}
-use Rattle.std.specs.Prelude.{nat_lt, slice_get}
+use Rattle.std.specs.Prelude.{nat_lt, slice_get, slice_index_or}
 use Rattle.std.specs.List.{AllByRecursion}
 use Rattle.std.specs.Option.{option_map_or}
 use Rattle.std.proofs.lemmas.Bool.Decides.{nat_tests}
@@ -14,7 +14,11 @@ use Rattle.world_model.specs.Histories.{state_of, after, Legal, LegalFrom}
 use Rattle.world_model.specs.Calls.{by, StoresAlone}
 use Rattle.world_model.specs.Engines.{act_of_refusal}
 use Rattle.world_model.proofs.Joins.{run-append, legal_split, legal_join}
-use Rattle.level_script.specs.Classes.{kind_of}
+use Rattle.level_script.specs.Frames.{IsAtOnce}
+use Rattle.class_schema.specs.Class.{Class}
+use Rattle.class_schema.specs.Ancestry.{object}
+use Rattle.class_schema.specs.Table.{kind_of}
+use Rattle.world_play.specs.Header.{Header}
 use Rattle.world_play.specs.Types.{Name, ClassId, Kind, Phase, Idle, CreateErr, Begin, Pass, Lane, Collector, Act, Entry, Reply, Line, Who, Cmd}
 use Rattle.world_play.specs.Types.act
 use Rattle.world_play.specs.Types.create
@@ -31,54 +35,63 @@ use Rattle.world_play.proofs.Order.{same_order}
 use Rattle.world_play.proofs.Removing.{scene_of, IsCalm, HasCollected, has_collected}
 use Rattle.world_play.proofs.Destroying.{InTable}
 
--- the class of each object that was made is one of so many
-abbrev pub AreKnown : ℕ → World → Type 0
-AreKnown classes w = (lane i : ℕ) (k : Kind) → slice_get (w.kinds lane) i ≡ Some k → k.class.0 < classes
+-- the class of each object that was made is one of the table
+abbrev pub AreKnown : Header → World → Type 0
+AreKnown header w = (lane i : ℕ) (k : Kind) → slice_get (w.kinds lane) i ≡ Some k → k.class.0 < length header.classes.classes
 
 -- so is that of each name
-known_class : (classes : ℕ) (o : Option Kind) → 0 < classes → ((k : Kind) → o ≡ Some k → k.class.0 < classes) → (option_map_or (λ k. k.class) o (record { 0 = 0 })).0 < classes
-known_class classes None some h = some
-known_class classes (Some k) some h = h k refl
+known_class : (count : ℕ) (o : Option Kind) → 0 < count → ((k : Kind) → o ≡ Some k → k.class.0 < count) → (option_map_or (λ k. k.class) o (record { 0 = 0 })).0 < count
+known_class count None some h = some
+known_class count (Some k) some h = h k refl
 
-in_table : (classes : ℕ) (w : World) → 0 < classes → AreKnown classes w → InTable classes w
-in_table classes w some known n = known_class classes (world.kind_of w n) some (λ k e. known n.lane (n.count - 1) k e)
+-- the class of an id is ready at once where all classes are
+at_once_there : (classes : List Class) (i : ℕ) → AllByRecursion IsAtOnce classes → IsAtOnce (slice_index_or classes i object)
+at_once_there [] i h = refl
+at_once_there (c ∷ classes) zero h = h.0
+at_once_there (c ∷ classes) (suc i) h = at_once_there classes i h.1
+
+in_table : (header : Header) (w : World) → 0 < length header.classes.classes → AllByRecursion IsAtOnce header.classes.classes → AreKnown header w → InTable header w
+in_table header w some at_once known = record {
+  known = λ n. known_class (length header.classes.classes) (world.kind_of w n) some (λ k e. known n.lane (n.count - 1) k e);
+  at_once = λ class. at_once_there header.classes.classes class.0 at_once;
+}
 
 -- with one kind more
-known_last : (classes : ℕ) (kinds : List Kind) (kind : Kind) → kind.class.0 < classes → ((i : ℕ) (k : Kind) → slice_get kinds i ≡ Some k → k.class.0 < classes)
-    → (i : ℕ) (k : Kind) → slice_get (kinds ++ kind ∷ []) i ≡ Some k → k.class.0 < classes
-known_last classes [] kind small h zero k e = subst (λ (x : Kind). x.class.0 < classes) (let same : kind ≡ k = cc in same) small
-known_last classes [] kind small h (suc i) k e = absurd cc
-known_last classes (x ∷ kinds) kind small h zero k e = h 0 k e
-known_last classes (x ∷ kinds) kind small h (suc i) k e = known_last classes kinds kind small (λ j. h (suc j)) i k e
+known_last : (count : ℕ) (kinds : List Kind) (kind : Kind) → kind.class.0 < count → ((i : ℕ) (k : Kind) → slice_get kinds i ≡ Some k → k.class.0 < count)
+    → (i : ℕ) (k : Kind) → slice_get (kinds ++ kind ∷ []) i ≡ Some k → k.class.0 < count
+known_last count [] kind small h zero k e = subst (λ (x : Kind). x.class.0 < count) (let same : kind ≡ k = cc in same) small
+known_last count [] kind small h (suc i) k e = absurd cc
+known_last count (x ∷ kinds) kind small h zero k e = h 0 k e
+known_last count (x ∷ kinds) kind small h (suc i) k e = known_last count kinds kind small (λ j. h (suc j)) i k e
 
-known_more : (classes : ℕ) (kinds : ℕ → List Kind) (lane : ℕ) (kind : Kind) → kind.class.0 < classes → ((l i : ℕ) (k : Kind) → slice_get (kinds l) i ≡ Some k → k.class.0 < classes)
-    → (l i : ℕ) (k : Kind) → slice_get (set_at kinds lane (kinds lane ++ kind ∷ []) l) i ≡ Some k → k.class.0 < classes
-known_more classes kinds lane kind small h l i k e = go (l == lane) e
+known_more : (count : ℕ) (kinds : ℕ → List Kind) (lane : ℕ) (kind : Kind) → kind.class.0 < count → ((l i : ℕ) (k : Kind) → slice_get (kinds l) i ≡ Some k → k.class.0 < count)
+    → (l i : ℕ) (k : Kind) → slice_get (set_at kinds lane (kinds lane ++ kind ∷ []) l) i ≡ Some k → k.class.0 < count
+known_more count kinds lane kind small h l i k e = go (l == lane) e
   where
-    go : (b : Bool) → slice_get (cond b (kinds lane ++ kind ∷ []) (kinds l)) i ≡ Some k → k.class.0 < classes
-    go true is = known_last classes (kinds lane) kind small (h lane) i k is
+    go : (b : Bool) → slice_get (cond b (kinds lane ++ kind ∷ []) (kinds l)) i ≡ Some k → k.class.0 < count
+    go true is = known_last count (kinds lane) kind small (h lane) i k is
     go false is = h l i k is
 
 -- what the piece of a line tells and leaves
-pub record Tells (z : Sizes) (classes : ℕ) (s : State) (names : Bindings) (by : Who) (what : Cmd) (piece : List Entry) : Type 0 where
+pub record Tells (z : Sizes) (header : Header) (s : State) (names : Bindings) (by : Who) (what : Cmd) (piece : List Entry) : Type 0 where
   pub told : reply_in s by piece ≡ reply_to z (scene_of s.world) names by what
-  pub left : scene_of (run s piece).world ≡ scene_after (scene_of s.world) names by what (reply_in s by piece)
+  pub left : scene_of (run s piece).world ≡ scene_after header (scene_of s.world) names by what (reply_in s by piece)
   pub calm : IsCalm (run s piece).world
-  pub table : AreKnown classes (run s piece).world
+  pub table : AreKnown header (run s piece).world
 
 -- ---- a lane opens and closes its frame
 
-tells_open : (z : Sizes) (classes : ℕ) (s : State) (names : Bindings) (lane : ℕ) (piece : List Entry) → IsCalm s.world → AreKnown classes s.world → LegalFrom z s piece
-    → LanePiece s names lane cmd.Open piece → Tells z classes s names (who.Lane lane) cmd.Open piece
-tells_open z classes s names lane piece calm known legal h =
+tells_open : (z : Sizes) (header : Header) (s : State) (names : Bindings) (lane : ℕ) (piece : List Entry) → IsCalm s.world → AreKnown header s.world → LegalFrom z s piece
+    → LanePiece header s names lane cmd.Open piece → Tells z header s names (who.Lane lane) cmd.Open piece
+tells_open z header s names lane piece calm known legal h =
     let entries : piece ≡ record { pass = Lane lane; act = act.FrameOpen h.0 } ∷ [] = h.1.2 ∙ ap (by (Lane lane)) h.1.1 in
     let phase : h.0 ≡ Idle = (subst (LegalFrom z s) entries legal).0.may ∙ calm.idle in
-    subst (Tells z classes s names (who.Lane lane) cmd.Open) (sym entries) (record { told = ap (reply.Opened lane) phase; left = refl; calm = calm; table = known })
+    subst (Tells z header s names (who.Lane lane) cmd.Open) (sym entries) (record { told = ap (reply.Opened lane) phase; left = refl; calm = calm; table = known })
 
-tells_close : (z : Sizes) (classes : ℕ) (s : State) (names : Bindings) (lane : ℕ) (piece : List Entry) → IsCalm s.world → AreKnown classes s.world
-    → LanePiece s names lane cmd.Close piece → Tells z classes s names (who.Lane lane) cmd.Close piece
-tells_close z classes s names lane piece calm known h =
-    subst (Tells z classes s names (who.Lane lane) cmd.Close) (sym (h.2 ∙ ap (by (Lane lane)) h.1)) (record { told = refl; left = refl; calm = calm; table = known })
+tells_close : (z : Sizes) (header : Header) (s : State) (names : Bindings) (lane : ℕ) (piece : List Entry) → IsCalm s.world → AreKnown header s.world
+    → LanePiece header s names lane cmd.Close piece → Tells z header s names (who.Lane lane) cmd.Close piece
+tells_close z header s names lane piece calm known h =
+    subst (Tells z header s names (who.Lane lane) cmd.Close) (sym (h.2 ∙ ap (by (Lane lane)) h.1)) (record { told = refl; left = refl; calm = calm; table = known })
 
 -- ---- a lane makes an object
 
@@ -104,38 +117,38 @@ room_reply z c lane left none =
 spent_reply : (z : Sizes) (c : Scene) (lane : ℕ) → names_left z c lane < 1 → new_reply z c lane ≡ reply.NamesSpent lane (names_left z c lane)
 spent_reply z c lane none = let spent : nat_lt (names_left z c lane) 1 ≡ true = grind (arith, nat_tests) in rw spent refl
 
-tells_made : (z : Sizes) (classes : ℕ) (s : State) (names : Bindings) (lane var count : ℕ) (class : ClassId) (piece : List Entry) → class.0 < classes → IsCalm s.world → AreKnown classes s.world → LegalFrom z s piece
-    → OneCall s (Lane lane) (act.Make (kind_of class ∷ []) count) piece → Tells z classes s names (who.Lane lane) (cmd.New var class) piece
-tells_made z classes s names lane var count class piece small calm known legal h =
-    let entries : piece ≡ record { pass = Lane lane; act = act.Make (kind_of class ∷ []) count } ∷ [] = h.2 ∙ ap (by (Lane lane)) h.1 in
+tells_made : (z : Sizes) (header : Header) (s : State) (names : Bindings) (lane var count : ℕ) (class : ClassId) (piece : List Entry) → class.0 < length header.classes.classes → IsCalm s.world → AreKnown header s.world → LegalFrom z s piece
+    → OneCall s (Lane lane) (act.Make (kind_of header.classes class ∷ []) count) piece → Tells z header s names (who.Lane lane) (cmd.New var class) piece
+tells_made z header s names lane var count class piece small calm known legal h =
+    let entries : piece ≡ record { pass = Lane lane; act = act.Make (kind_of header.classes class ∷ []) count } ∷ [] = h.2 ∙ ap (by (Lane lane)) h.1 in
     let may = (subst (LegalFrom z s) entries legal).0.may in
     let left : 1 ≤ names_left z (scene_of s.world) lane = omega (arith, may.names) in
     let room : 1 ≤ free z (scene_of s.world) lane = omega (arith, may.room, free_same z s.world lane calm.released) in
     let next : reply.New lane (record { lane = lane; count = count }) ≡ reply.New lane (next_name (scene_of s.world) lane) =
     ap (λ (n : ℕ). reply.New lane (record { lane = lane; count = n })) may.next in
-    subst (Tells z classes s names (who.Lane lane) (cmd.New var class)) (sym entries)
-    (record { told = next ∙ sym (made_reply z (scene_of s.world) lane left room); left = refl; calm = calm; table = known_more classes s.world.kinds lane (kind_of class) small known })
+    subst (Tells z header s names (who.Lane lane) (cmd.New var class)) (sym entries)
+    (record { told = next ∙ sym (made_reply z (scene_of s.world) lane left room); left = refl; calm = calm; table = known_more (length header.classes.classes) s.world.kinds lane (kind_of header.classes class) small known })
 
-tells_refused : (z : Sizes) (classes : ℕ) (s : State) (names : Bindings) (lane var : ℕ) (class : ClassId) (why : CreateErr) (piece : List Entry) → IsCalm s.world → AreKnown classes s.world → LegalFrom z s piece
-    → OneCall s (Lane lane) (act_of_refusal 1 why) piece → Tells z classes s names (who.Lane lane) (cmd.New var class) piece
-tells_refused z classes s names lane var class (create.Full room) piece calm known legal h =
+tells_refused : (z : Sizes) (header : Header) (s : State) (names : Bindings) (lane var : ℕ) (class : ClassId) (why : CreateErr) (piece : List Entry) → IsCalm s.world → AreKnown header s.world → LegalFrom z s piece
+    → OneCall s (Lane lane) (act_of_refusal 1 why) piece → Tells z header s names (who.Lane lane) (cmd.New var class) piece
+tells_refused z header s names lane var class (create.Full room) piece calm known legal h =
     let entries : piece ≡ record { pass = Lane lane; act = act.Full 1 room } ∷ [] = h.2 ∙ ap (by (Lane lane)) h.1 in
     let may = (subst (LegalFrom z s) entries legal).0.may in
     let same : room ≡ free z (scene_of s.world) lane = may.rest ∙ free_same z s.world lane calm.released in
     let none : free z (scene_of s.world) lane < 1 = omega (arith, may.short, same) in
-    subst (Tells z classes s names (who.Lane lane) (cmd.New var class)) (sym entries)
+    subst (Tells z header s names (who.Lane lane) (cmd.New var class)) (sym entries)
     (record { told = ap (reply.Full lane) same ∙ sym (room_reply z (scene_of s.world) lane may.names none); left = refl; calm = calm; table = known })
-tells_refused z classes s names lane var class (create.NamesSpent left) piece calm known legal h =
+tells_refused z header s names lane var class (create.NamesSpent left) piece calm known legal h =
     let entries : piece ≡ record { pass = Lane lane; act = act.NamesSpent 1 left } ∷ [] = h.2 ∙ ap (by (Lane lane)) h.1 in
     let may = (subst (LegalFrom z s) entries legal).0.may in
     let none : names_left z (scene_of s.world) lane < 1 = omega (arith, may.short, may.rest) in
-    subst (Tells z classes s names (who.Lane lane) (cmd.New var class)) (sym entries)
+    subst (Tells z header s names (who.Lane lane) (cmd.New var class)) (sym entries)
     (record { told = ap (reply.NamesSpent lane) may.rest ∙ sym (spent_reply z (scene_of s.world) lane none); left = refl; calm = calm; table = known })
 
-tells_new : (z : Sizes) (classes : ℕ) (s : State) (names : Bindings) (lane var : ℕ) (class : ClassId) (piece : List Entry) → class.0 < classes → IsCalm s.world → AreKnown classes s.world → LegalFrom z s piece
-    → MakesObject s lane (kind_of class) piece → Tells z classes s names (who.Lane lane) (cmd.New var class) piece
-tells_new z classes s names lane var class piece small calm known legal (inl h) = tells_made z classes s names lane var h.0 class piece small calm known legal h.1
-tells_new z classes s names lane var class piece small calm known legal (inr h) = tells_refused z classes s names lane var class h.0 piece calm known legal h.1
+tells_new : (z : Sizes) (header : Header) (s : State) (names : Bindings) (lane var : ℕ) (class : ClassId) (piece : List Entry) → class.0 < length header.classes.classes → IsCalm s.world → AreKnown header s.world → LegalFrom z s piece
+    → MakesObject s lane (kind_of header.classes class) piece → Tells z header s names (who.Lane lane) (cmd.New var class) piece
+tells_new z header s names lane var class piece small calm known legal (inl h) = tells_made z header s names lane var h.0 class piece small calm known legal h.1
+tells_new z header s names lane var class piece small calm known legal (inr h) = tells_refused z header s names lane var class h.0 piece calm known legal h.1
 
 -- ---- an object joins or leaves the root set
 
@@ -166,15 +179,15 @@ tells_root z s lane (Some n) on piece calm legal (was, (acts, call, is)) =
 
 -- ---- the lines of a lane
 
-tells_lane : (z : Sizes) (classes : ℕ) (s : State) (names : Bindings) (lane : ℕ) (what : Cmd) (piece : List Entry) → HasClass classes what → IsCalm s.world → AreKnown classes s.world → LegalFrom z s piece
-    → LanePiece s names lane what piece → Tells z classes s names (who.Lane lane) what piece
-tells_lane z classes s names lane cmd.Open piece has calm known legal h = tells_open z classes s names lane piece calm known legal h
-tells_lane z classes s names lane cmd.Close piece has calm known legal h = tells_close z classes s names lane piece calm known h
-tells_lane z classes s names lane (cmd.New var class) piece has calm known legal h = tells_new z classes s names lane var class piece has calm known legal h
-tells_lane z classes s names lane (cmd.Root var on) piece has calm known legal h =
+tells_lane : (z : Sizes) (header : Header) (s : State) (names : Bindings) (lane : ℕ) (what : Cmd) (piece : List Entry) → HasClass header what → IsCalm s.world → AreKnown header s.world → LegalFrom z s piece
+    → LanePiece header s names lane what piece → Tells z header s names (who.Lane lane) what piece
+tells_lane z header s names lane cmd.Open piece has calm known legal h = tells_open z header s names lane piece calm known legal h
+tells_lane z header s names lane cmd.Close piece has calm known legal h = tells_close z header s names lane piece calm known h
+tells_lane z header s names lane (cmd.New var class) piece has calm known legal h = tells_new z header s names lane var class piece has calm known legal h
+tells_lane z header s names lane (cmd.Root var on) piece has calm known legal h =
     let root = tells_root z s lane (names lane var) on piece calm legal h in
-    record { told = root.told; left = root.left; calm = root.calm; table = subst (λ (kinds : ℕ → List Kind). (l i : ℕ) (k : Kind) → slice_get (kinds l) i ≡ Some k → k.class.0 < classes) (sym root.kinds) known }
-tells_lane z classes s names lane cmd.GcFull piece has calm known legal h = absurd h
+    record { told = root.told; left = root.left; calm = root.calm; table = subst (λ (kinds : ℕ → List Kind). (l i : ℕ) (k : Kind) → slice_get (kinds l) i ≡ Some k → k.class.0 < length header.classes.classes) (sym root.kinds) known }
+tells_lane z header s names lane cmd.GcFull piece has calm known legal h = absurd h
 
 -- ---- a collection that does not begin
 
@@ -182,23 +195,23 @@ pending : (opened : List Pass) (gone : List Name) → 0 < length opened → repl
 pending [] gone some = absurd (omega arith)
 pending (p ∷ opened) gone some = refl
 
-tells_none : (z : Sizes) (classes : ℕ) (s : State) (names : Bindings) (why : Begin) (piece : List Entry) → IsCalm s.world → AreKnown classes s.world → LegalFrom z s piece
-    → why ≢ begin.Started → OneCall s Collector (act.BeginGc why) piece → Tells z classes s names who.Gc cmd.GcFull piece
-tells_none z classes s names begin.Started piece calm known legal other h = absurd (other refl)
-tells_none z classes s names (begin.Running phase) piece calm known legal other h =
+tells_none : (z : Sizes) (header : Header) (s : State) (names : Bindings) (why : Begin) (piece : List Entry) → IsCalm s.world → AreKnown header s.world → LegalFrom z s piece
+    → why ≢ begin.Started → OneCall s Collector (act.BeginGc why) piece → Tells z header s names who.Gc cmd.GcFull piece
+tells_none z header s names begin.Started piece calm known legal other h = absurd (other refl)
+tells_none z header s names (begin.Running phase) piece calm known legal other h =
     let entries : piece ≡ record { pass = Collector; act = act.BeginGc (begin.Running phase) } ∷ [] = h.2 ∙ ap (by Collector) h.1 in
     let may = (subst (LegalFrom z s) entries legal).0.may in
     absurd (may.1 (may.0 ∙ calm.idle))
-tells_none z classes s names (begin.Purging left) piece calm known legal other h =
+tells_none z header s names (begin.Purging left) piece calm known legal other h =
     let entries : piece ≡ record { pass = Collector; act = act.BeginGc (begin.Purging left) } ∷ [] = h.2 ∙ ap (by Collector) h.1 in
     let may = (subst (LegalFrom z s) entries legal).0.may in
     let nothing : length s.world.removals ≡ 0 = ap length calm.released in
     absurd (omega (arith, may.1, may.2, nothing))
-tells_none z classes s names (begin.Frames n) piece calm known legal other h =
+tells_none z header s names (begin.Frames n) piece calm known legal other h =
     let entries : piece ≡ record { pass = Collector; act = act.BeginGc (begin.Frames n) } ∷ [] = h.2 ∙ ap (by Collector) h.1 in
     let may = (subst (LegalFrom z s) entries legal).0.may in
     let answer = pending s.world.opened (unreached (scene_of s.world)) (omega (arith, may.1.0, may.1.1)) in
-    subst (Tells z classes s names who.Gc cmd.GcFull) (sym entries) (record { told = ap reply.Pending may.1.0 ∙ answer; left = refl; calm = calm; table = known })
+    subst (Tells z header s names who.Gc cmd.GcFull) (sym entries) (record { told = ap reply.Pending may.1.0 ∙ answer; left = refl; calm = calm; table = known })
 
 -- ---- a whole collection
 
@@ -210,55 +223,55 @@ collected_reply w piece new h =
     let none : collection w.opened gone ≡ collection [] gone = rw h.closed refl in
     ap (plays.full_reply new) h.begun ∙ (λ i. reply.FullGc (order.1 i) (left i) (order.0 i)) ∙ sym none
 
-tells_collected : (z : Sizes) (budget classes : ℕ) (old : List Entry) (names : Bindings) (piece : List Entry) → 0 < classes → Legal z old → IsCalm (after old) → AreKnown classes (after old) → LegalFrom z (state_of old) piece
-    → Collected budget classes (state_of old) piece → Tells z classes (state_of old) names who.Gc cmd.GcFull piece
-tells_collected z budget classes old names piece some before calm known legal h =
+tells_collected : (z : Sizes) (budget : ℕ) (header : Header) (old : List Entry) (names : Bindings) (piece : List Entry) → 0 < length header.classes.classes → AllByRecursion IsAtOnce header.classes.classes → Legal z old → IsCalm (after old) → AreKnown header (after old) → LegalFrom z (state_of old) piece
+    → Collected budget header (state_of old) piece → Tells z header (state_of old) names who.Gc cmd.GcFull piece
+tells_collected z budget header old names piece some at_once before calm known legal h =
     let new : World = (run (state_of old) piece).world in
-    let all = has_collected z budget classes old piece before calm (in_table classes (after old) some known) legal h in
+    let all = has_collected z budget header old piece before calm (in_table header (after old) some at_once known) legal h in
     record {
       told = collected_reply (after old) piece new all;
       left = all.scene ∙ sym (ap (λ (why : Begin). with_collection (scene_of (after old)) (plays.full_reply new why)) all.begun);
       calm = all.calm;
-      table = subst (λ (kinds : ℕ → List Kind). (l i : ℕ) (k : Kind) → slice_get (kinds l) i ≡ Some k → k.class.0 < classes) (sym (ap (λ (c : Scene). c.kinds) all.scene)) known;
+      table = subst (λ (kinds : ℕ → List Kind). (l i : ℕ) (k : Kind) → slice_get (kinds l) i ≡ Some k → k.class.0 < length header.classes.classes) (sym (ap (λ (c : Scene). c.kinds) all.scene)) known;
     }
 
 -- ---- line after line
 
-tells_gc : (z : Sizes) (budget classes : ℕ) (old : List Entry) (s : State) (names : Bindings) (what : Cmd) (piece : List Entry)
-    → 0 < classes → state_of old ≡ s → Legal z old → IsCalm s.world → AreKnown classes s.world → LegalFrom z s piece → CollectorPiece budget classes s what piece → Tells z classes s names who.Gc what piece
-tells_gc z budget classes old s names cmd.GcFull piece some is before calm known legal (inl h) = tells_none z classes s names h.0 piece calm known legal h.1 h.2
-tells_gc z budget classes old s names cmd.GcFull piece some is before calm known legal (inr h) =
-    subst (λ (t : State). IsCalm t.world → AreKnown classes t.world → LegalFrom z t piece → Collected budget classes t piece → Tells z classes t names who.Gc cmd.GcFull piece) is
-    (tells_collected z budget classes old names piece some before) calm known legal h
-tells_gc z budget classes old s names what piece some is before calm known legal h = absurd h
+tells_gc : (z : Sizes) (budget : ℕ) (header : Header) (old : List Entry) (s : State) (names : Bindings) (what : Cmd) (piece : List Entry)
+    → 0 < length header.classes.classes → AllByRecursion IsAtOnce header.classes.classes → state_of old ≡ s → Legal z old → IsCalm s.world → AreKnown header s.world → LegalFrom z s piece → CollectorPiece budget header s what piece → Tells z header s names who.Gc what piece
+tells_gc z budget header old s names cmd.GcFull piece some at_once is before calm known legal (inl h) = tells_none z header s names h.0 piece calm known legal h.1 h.2
+tells_gc z budget header old s names cmd.GcFull piece some at_once is before calm known legal (inr h) =
+    subst (λ (t : State). IsCalm t.world → AreKnown header t.world → LegalFrom z t piece → Collected budget header t piece → Tells z header t names who.Gc cmd.GcFull piece) is
+    (tells_collected z budget header old names piece some at_once before) calm known legal h
+tells_gc z budget header old s names what piece some at_once is before calm known legal h = absurd h
 
 -- a line tells and leaves what the outcome says
-pub tells : (z : Sizes) (budget classes : ℕ) (old : List Entry) (s : State) (names : Bindings) (by : Who) (what : Cmd) (piece : List Entry)
-    → 0 < classes → HasClass classes what → state_of old ≡ s → Legal z old → IsCalm s.world → AreKnown classes s.world → LegalFrom z s piece → IsPiece budget classes s names by what piece → Tells z classes s names by what piece
-tells z budget classes old s names (who.Lane lane) what piece some has is before calm known legal h = tells_lane z classes s names lane what piece has calm known legal h
-tells z budget classes old s names who.Gc what piece some has is before calm known legal h = tells_gc z budget classes old s names what piece some is before calm known legal h
+pub tells : (z : Sizes) (budget : ℕ) (header : Header) (old : List Entry) (s : State) (names : Bindings) (by : Who) (what : Cmd) (piece : List Entry)
+    → 0 < length header.classes.classes → AllByRecursion IsAtOnce header.classes.classes → HasClass header what → state_of old ≡ s → Legal z old → IsCalm s.world → AreKnown header s.world → LegalFrom z s piece → IsPiece budget header s names by what piece → Tells z header s names by what piece
+tells z budget header old s names (who.Lane lane) what piece some at_once has is before calm known legal h = tells_lane z header s names lane what piece has calm known legal h
+tells z budget header old s names who.Gc what piece some at_once has is before calm known legal h = tells_gc z budget header old s names what piece some at_once is before calm known legal h
 
-lines_tell : (z : Sizes) (budget classes : ℕ) (old : List Entry) (s : State) (names : Bindings) (lines : List Line) (pieces : List (List Entry)) (last : Bindings)
-    → 0 < classes → AllByRecursion (λ l. HasClass classes l.cmd) lines → state_of old ≡ s → Legal z old → IsCalm s.world → AreKnown classes s.world
-    → LegalFrom z s (entries_of pieces) → Plays budget classes s names lines pieces last
-    → text s lines pieces ≡ outcome_from z (scene_of s.world) names lines
+lines_tell : (z : Sizes) (budget : ℕ) (header : Header) (old : List Entry) (s : State) (names : Bindings) (lines : List Line) (pieces : List (List Entry)) (last : Bindings)
+    → 0 < length header.classes.classes → AllByRecursion IsAtOnce header.classes.classes → AllByRecursion (λ l. HasClass header l.cmd) lines → state_of old ≡ s → Legal z old → IsCalm s.world → AreKnown header s.world
+    → LegalFrom z s (entries_of pieces) → Plays budget header s names lines pieces last
+    → text s lines pieces ≡ outcome_from z header (scene_of s.world) names lines
 unfolding Plays text outcome_from
-lines_tell z budget classes old s names [] [] last some has is before calm known legal plays = refl
-lines_tell z budget classes old s names [] (p ∷ ps) last some has is before calm known legal plays = absurd plays
-lines_tell z budget classes old s names (l ∷ ls) [] last some has is before calm known legal plays = absurd plays
-lines_tell z budget classes old s names (l ∷ ls) (p ∷ ps) last some has is before calm known legal plays =
+lines_tell z budget header old s names [] [] last some at_once has is before calm known legal plays = refl
+lines_tell z budget header old s names [] (p ∷ ps) last some at_once has is before calm known legal plays = absurd plays
+lines_tell z budget header old s names (l ∷ ls) [] last some at_once has is before calm known legal plays = absurd plays
+lines_tell z budget header old s names (l ∷ ls) (p ∷ ps) last some at_once has is before calm known legal plays =
     let parts = legal_split z s p (entries_of ps) legal in
-    let one = tells z budget classes old s names l.who l.cmd p some has.0 is before calm known parts.0 plays.0 in
+    let one = tells z budget header old s names l.who l.cmd p some at_once has.0 is before calm known parts.0 plays.0 in
     let new : Bindings = names_after names l.who l.cmd (reply_in s l.who p) in
     let joined : Legal z (old ++ p) = legal_join z beginning old p before (subst (λ (t : State). LegalFrom z t p) (sym is) parts.0) in
     let state : state_of (old ++ p) ≡ run s p = run-append beginning old p ∙ ap (λ (t : State). run t p) is in
-    let rest : text (run s p) ls ps ≡ outcome_from z (scene_of (run s p).world) new ls =
-    lines_tell z budget classes (old ++ p) (run s p) new ls ps last some has.1 state joined one.calm one.table parts.1 plays.1 in
-    ap (λ (t : List ℕ). text_of (reply_in s l.who p) ++ t) (rest ∙ ap (λ (c : Scene). outcome_from z c new ls) one.left)
-    ∙ ap (λ (r : Reply). text_of r ++ outcome_from z (scene_after (scene_of s.world) names l.who l.cmd r) (names_after names l.who l.cmd r) ls) one.told
+    let rest : text (run s p) ls ps ≡ outcome_from z header (scene_of (run s p).world) new ls =
+    lines_tell z budget header (old ++ p) (run s p) new ls ps last some at_once has.1 state joined one.calm one.table parts.1 plays.1 in
+    ap (λ (t : List ℕ). text_of (reply_in s l.who p) ++ t) (rest ∙ ap (λ (c : Scene). outcome_from z header c new ls) one.left)
+    ∙ ap (λ (r : Reply). text_of r ++ outcome_from z header (scene_after header (scene_of s.world) names l.who l.cmd r) (names_after names l.who l.cmd r) ls) one.told
 
 pub one_text_holds : OneText
-one_text_holds z budget classes lines pieces last some has legal plays =
+one_text_holds z budget header lines pieces last some at_once has legal plays =
     let calm : IsCalm (after []) = record { idle = refl; released = refl; cells = λ n slot. refl; pointers = λ lane number. refl } in
-    let known : AreKnown classes (after []) = λ lane i k e. absurd cc in
-    lines_tell z budget classes [] beginning no_bindings lines pieces last some has refl tt calm known legal plays
+    let known : AreKnown header (after []) = λ lane i k e. absurd cc in
+    lines_tell z budget header [] beginning no_bindings lines pieces last some at_once has refl tt calm known legal plays

@@ -8,6 +8,7 @@ use Rattle.level_script.specs.declared.cause.ScriptErr.{ScriptErr}
 use Rattle.level_script.specs.declared.script.Script.{Script}
 use Rattle.level_script.specs.Reading.{script_of, fault_of}
 use Rattle.world_play.specs.Types.{Entry}
+use Rattle.world_play.specs.Header.{Header}
 use Rattle.world_play.specs.Turns.{Played, Stopped}
 use Rattle.world_play.specs.Streams.{Gains, Gained, line_feeds}
 use Rattle.world_play.specs.Outcome.{outcome}
@@ -34,6 +35,10 @@ limits_of z = record { lanes = z.lanes; slots = z.slots; strong = z.strong; mark
 
 abbrev pub limits_in : ShapeName → Limits
 limits_in name = limits_of (sizes_of name)
+
+-- what a script tells before its lines
+abbrev pub header_of : Script → Header
+header_of script = record { classes = script.classes; fields = script.fields }
 
 -- the history of the engine that played
 abbrev pub history_of : Run → List Entry
@@ -96,8 +101,8 @@ HasRun _ r = r ≡ None
 
 -- The engine played the script to its end and the sink took its text; or, where the run ended early, it played the first lines, and the sink took a beginning of their text.
 abbrev pub PlayedBy : Sizes → ℕ → Status → Script → List Entry → Option (List ℕ) → Option (List ℕ) → ℕ → Type 0
-PlayedBy z budget status.Ok script history had has count = Played z budget (length script.classes) script.lines history had has × (count ≡ length script.lines)
-PlayedBy z budget _ script history had has count = Stopped z budget (length script.classes) script.lines history had has count
+PlayedBy z budget status.Ok script history had has count = Played z budget (header_of script) script.lines history had has × (count ≡ length script.lines)
+PlayedBy z budget _ script history had has count = Stopped z budget (header_of script) script.lines history had has count
 
 -- Where there is an engine it played so; where there is none, nothing was put.
 abbrev pub WasPlayed : Sizes → ℕ → Status → Script → Option (List Entry) → Option (List ℕ) → Option (List ℕ) → ℕ → Type 0
@@ -151,16 +156,16 @@ SaysWrite before now _ = now ≡ before
 -- The headline: the whole input is a script, nothing of it is left, one legal history of this engine plays it, and the sink gained exactly its text.
 abbrev pub Headline : Words → Option (List ℕ) → Option (List ℕ) → Option (List ℕ) → Option (List ℕ) → Option Run → Type 0
 Headline w left now had has r = IfSome left (λ input. IfSome r (λ engine.
-    (script : Script) × (script_of input (limits_in w.shape) ≡ Some script) × (now ≡ Some []) × Played (sizes_of w.shape) w.slice (length script.classes) script.lines (history_of engine) had has))
+    (script : Script) × (script_of input (limits_in w.shape) ≡ Some script) × (now ≡ Some []) × Played (sizes_of w.shape) w.slice (header_of script) script.lines (history_of engine) had has))
 
 -- After a fault of the sink, or without memory: the input is a script, the history of this engine plays its first lines, of the next perhaps some calls, and the sink gained a beginning of the text.
 abbrev pub EndsEarly : Words → Option (List ℕ) → Option (List ℕ) → Option (List ℕ) → ℕ → Run → Type 0
 EndsEarly w left had has count engine =
-    IfSome left (λ input. (script : Script) × (script_of input (limits_in w.shape) ≡ Some script) × Stopped (sizes_of w.shape) w.slice (length script.classes) script.lines (history_of engine) had has count)
+    IfSome left (λ input. (script : Script) × (script_of input (limits_in w.shape) ≡ Some script) × Stopped (sizes_of w.shape) w.slice (header_of script) script.lines (history_of engine) had has count)
 
 -- the sink gained the outcome of the script that the input is
 abbrev pub WritesOutcome : ShapeName → Option (List ℕ) → Option (List ℕ) → Option (List ℕ) → Type 0
-WritesOutcome name left had has = IfSome left (λ input. (script : Script) × (script_of input (limits_in name) ≡ Some script) × Gained had has (outcome (sizes_of name) script.lines))
+WritesOutcome name left had has = IfSome left (λ input. (script : Script) × (script_of input (limits_in name) ≡ Some script) × Gained had has (outcome (sizes_of name) (header_of script) script.lines))
 
 -- the number is that of the line feeds that the sink gained
 abbrev pub CountsLines : Option (List ℕ) → Option (List ℕ) → ℕ → Type 0

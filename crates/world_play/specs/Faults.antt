@@ -2,8 +2,8 @@
 use Rattle.std.specs.Prelude.{ℕ, List, [], ◌++◌, codes, decimal}
 use Rattle.level_script.specs.declared.cause.Cause.{Cause}
 use Rattle.level_script.specs.declared.cause.Cause.TheVariants as cause
-use Rattle.level_script.specs.declared.cause.SchemaErr.{SchemaErr}
-use Rattle.level_script.specs.declared.cause.SchemaErr.TheVariants as schema
+use Rattle.class_schema.specs.declared.refusal.SchemaErr.{SchemaErr}
+use Rattle.class_schema.specs.declared.refusal.SchemaErr.TheVariants as schema
 use Rattle.level_script.specs.declared.cause.ScriptErr.{ScriptErr}
 use Rattle.world_play.specs.declared.status.Status.{Status}
 use Rattle.world_play.specs.declared.status.Status.TheVariants as status

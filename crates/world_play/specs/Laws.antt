@@ -1,24 +1,27 @@
 -- Laws of whole scripts.
-use Rattle.std.specs.Prelude.{◌≡◌, ◌<◌, ℕ, List}
+use Rattle.std.specs.Prelude.{◌≡◌, ◌<◌, ℕ, List, length}
 use Rattle.std.specs.List.{AllByRecursion}
 use Rattle.world_model.specs.Sizes.{Sizes}
 use Rattle.world_model.specs.State.{beginning}
 use Rattle.world_model.specs.Histories.{Legal}
+use Rattle.level_script.specs.Frames.{IsAtOnce}
+use Rattle.world_play.specs.Header.{Header}
 use Rattle.world_play.specs.Types.{Entry, Line, Cmd}
 use Rattle.world_play.specs.Types.cmd
 use Rattle.world_play.specs.Plays.{Bindings, no_bindings, Plays, text, entries_of}
 use Rattle.world_play.specs.Outcome.{outcome}
 
--- the class of an object that the command makes is one of so many
-abbrev pub HasClass : ℕ → Cmd → Type 0
-HasClass classes (cmd.New var class) = class.0 < classes
-HasClass classes _ = Unit {0}
+-- the class of an object that the command makes is one of the table
+abbrev pub HasClass : Header → Cmd → Type 0
+HasClass header (cmd.New var class) = class.0 < length header.classes.classes
+HasClass header _ = Unit {0}
 
--- However a legal history plays a whole script, its text is the outcome of the script.
+-- However a legal history plays a whole script, whose classes are ready as soon as they are asked, its text is the outcome of the script.
 abbrev pub OneText : Type 0
-OneText = (z : Sizes) (budget classes : ℕ) (lines : List Line) (pieces : List (List Entry)) (last : Bindings)
-    → 0 < classes
-    → AllByRecursion (λ l. HasClass classes l.cmd) lines
+OneText = (z : Sizes) (budget : ℕ) (header : Header) (lines : List Line) (pieces : List (List Entry)) (last : Bindings)
+    → 0 < length header.classes.classes
+    → AllByRecursion IsAtOnce header.classes.classes
+    → AllByRecursion (λ l. HasClass header l.cmd) lines
     → Legal z (entries_of pieces)
-    → Plays budget classes beginning no_bindings lines pieces last
-    → text beginning lines pieces ≡ outcome z lines
+    → Plays budget header beginning no_bindings lines pieces last
+    → text beginning lines pieces ≡ outcome z header lines

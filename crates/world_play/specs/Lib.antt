@@ -1,4 +1,5 @@
 pub mod Types
+pub mod Header
 pub mod Text
 pub mod Plays
 pub mod Outcome

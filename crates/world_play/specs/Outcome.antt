@@ -4,7 +4,8 @@ use Rattle.std.specs.Prelude.{ℕ, ◌+◌, ◌-◌, ◌==◌, nat_lt, Bool, fal
 use Rattle.std.specs.List.{list_any, count_by}
 use Rattle.world_model.specs.NameLists.{same_pass, has, members, set_at, set_name}
 use Rattle.world_model.specs.Sizes.{Sizes}
-use Rattle.level_script.specs.Classes.{kind_of}
+use Rattle.class_schema.specs.Table.{kind_of}
+use Rattle.world_play.specs.Header.{Header}
 use Rattle.world_play.specs.Types.{Name, Kind, Idle, Pass, Lane, Reply, Line, Who, Cmd}
 use Rattle.world_play.specs.Types.reply
 use Rattle.world_play.specs.Types.who
@@ -99,21 +100,21 @@ reply_to z c names (who.Lane lane) cmd.GcFull = full_reply c
 reply_to z c names who.Gc what = full_reply c
 
 -- what it leaves
-abbrev pub scene_after : Scene → Bindings → Who → Cmd → Reply → Scene
-scene_after c names (who.Lane lane) cmd.Open r = record c { opened = Lane lane ∷ c.opened }
-scene_after c names (who.Lane lane) cmd.Close r = record c { opened = filter (λ q. not (same_pass (Lane lane) q)) c.opened }
-scene_after c names (who.Lane lane) (cmd.New var class) r = with_object c lane (kind_of class) r
-scene_after c names (who.Lane lane) (cmd.Root var on) r = with_root c (names lane var) on
-scene_after c names (who.Lane lane) cmd.GcFull r = with_collection c r
-scene_after c names who.Gc what r = with_collection c r
+abbrev pub scene_after : Header → Scene → Bindings → Who → Cmd → Reply → Scene
+scene_after header c names (who.Lane lane) cmd.Open r = record c { opened = Lane lane ∷ c.opened }
+scene_after header c names (who.Lane lane) cmd.Close r = record c { opened = filter (λ q. not (same_pass (Lane lane) q)) c.opened }
+scene_after header c names (who.Lane lane) (cmd.New var class) r = with_object c lane (kind_of header.classes class) r
+scene_after header c names (who.Lane lane) (cmd.Root var on) r = with_root c (names lane var) on
+scene_after header c names (who.Lane lane) cmd.GcFull r = with_collection c r
+scene_after header c names who.Gc what r = with_collection c r
 
 -- the text of lines in order, from a scene and these bindings on
-unfoldable pub outcome_from : Sizes → Scene → Bindings → List Line → List ℕ
-outcome_from z c names [] = []
-outcome_from z c names (l ∷ ls) =
+unfoldable pub outcome_from : Sizes → Header → Scene → Bindings → List Line → List ℕ
+outcome_from z header c names [] = []
+outcome_from z header c names (l ∷ ls) =
     text_of (reply_to z c names l.who l.cmd)
-    ++ outcome_from z (scene_after c names l.who l.cmd (reply_to z c names l.who l.cmd)) (names_after names l.who l.cmd (reply_to z c names l.who l.cmd)) ls
+    ++ outcome_from z header (scene_after header c names l.who l.cmd (reply_to z c names l.who l.cmd)) (names_after names l.who l.cmd (reply_to z c names l.who l.cmd)) ls
 
 -- the outcome of a whole script
-abbrev pub outcome : Sizes → List Line → List ℕ
-outcome z lines = outcome_from z first_scene no_bindings lines
+abbrev pub outcome : Sizes → Header → List Line → List ℕ
+outcome z header lines = outcome_from z header first_scene no_bindings lines

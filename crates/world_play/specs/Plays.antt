@@ -17,8 +17,10 @@ use Rattle.world_model.specs.State.{State}
 use Rattle.world_model.specs.Next.{run}
 use Rattle.world_model.specs.Calls.{by, CallOf, MarksRoots, SlicesAlone, SlicesUntilIdle, PurgesAlone}
 use Rattle.world_model.specs.Engines.{act_of_refusal}
-use Rattle.level_script.specs.Classes.{kind_of}
+use Rattle.class_schema.specs.Class.{Schema}
+use Rattle.class_schema.specs.Table.{kind_of}
 use Rattle.level_script.specs.Frames.{fits_lane, fits_gc}
+use Rattle.world_play.specs.Header.{Header}
 use Rattle.world_play.specs.Types.{Reply, Line, Who, Cmd}
 use Rattle.world_play.specs.Types.reply
 use Rattle.world_play.specs.Types.who
@@ -56,12 +58,12 @@ abbrev pub SetsObject : State → ℕ → Option Name → Bool → List Entry �
 SetsObject s lane None on piece = piece ≡ []
 SetsObject s lane (Some n) on piece = (was : Bool) × OneCall s (Lane lane) (act.Root n on was) piece
 
-abbrev pub LanePiece : State → Bindings → ℕ → Cmd → List Entry → Type 0
-LanePiece s names lane cmd.Open piece = (phase : Phase) × OneCall s (Lane lane) (act.FrameOpen phase) piece
-LanePiece s names lane cmd.Close piece = OneCall s (Lane lane) act.FrameClose piece
-LanePiece s names lane (cmd.New var class) piece = MakesObject s lane (kind_of class) piece
-LanePiece s names lane (cmd.Root var on) piece = SetsObject s lane (names lane var) on piece
-LanePiece s names lane cmd.GcFull piece = ⊥
+abbrev pub LanePiece : Header → State → Bindings → ℕ → Cmd → List Entry → Type 0
+LanePiece header s names lane cmd.Open piece = (phase : Phase) × OneCall s (Lane lane) (act.FrameOpen phase) piece
+LanePiece header s names lane cmd.Close piece = OneCall s (Lane lane) act.FrameClose piece
+LanePiece header s names lane (cmd.New var class) piece = MakesObject s lane (kind_of header.classes class) piece
+LanePiece header s names lane (cmd.Root var on) piece = SetsObject s lane (names lane var) on piece
+LanePiece header s names lane cmd.GcFull piece = ⊥
 
 -- sweeps in a row that stopped for their budget
 abbrev pub SweepsMore : ℕ → List Act → Type 0
@@ -82,28 +84,28 @@ pub record SweepsAll (budget : ℕ) (sweeps : List Act) : Type 0 where
 abbrev pub Sweeping : List Act → List (List Act) → List Act → List Entry → Type 0
 Sweeping begins slices sweeps piece = piece ≡ ((by Collector begins ++ flat_map (by (Marker 0)) slices) ++ by Collector (act.CommitGc commit.Done ∷ [])) ++ by Collector sweeps
 
--- whether a class is ready when it is asked for the `poll`-th time: it is one of so many, and that is more than the polls that it refuses
+-- whether a class is ready when it is asked for the `poll`-th time: it is one of the table, and that is more than the polls that it refuses
 abbrev pub is_after : Ready → ℕ → Bool
 is_after (ready.After n) poll = nat_lt n poll
 is_after ready.Never poll = false
 
-abbrev pub is_ready : ℕ → ClassId → ℕ → Bool
-is_ready classes class poll = nat_lt class.0 classes && is_after (kind_of class).ready poll
+abbrev pub is_ready : Schema → ClassId → ℕ → Bool
+is_ready t class poll = nat_lt class.0 (length t.classes) && is_after (kind_of t class).ready poll
 
 -- an object that is asked answers as its class does
-abbrev pub AnswersBy : ℕ → World → Act → Type 0
-AnswersBy classes w (act.Asked of poll answer) = answer ≡ is_ready classes (class_of w of) poll
-AnswersBy classes w a = Unit {0}
+abbrev pub AnswersBy : Header → World → Act → Type 0
+AnswersBy header w (act.Asked of poll answer) = answer ≡ is_ready header.classes (class_of w of) poll
+AnswersBy header w a = Unit {0}
 
 -- purges in a row until no removed object is left, or they have made so many steps together; none may make more than are left to that bound
-unfoldable pub PurgesAll : ℕ → ℕ → ℕ → State → List (List Act) → Type 0
-PurgesAll budget classes bound s [] = (left_of s.world ≡ 0) ⊎ (bound ≡ 0)
-PurgesAll budget classes bound s (acts ∷ rest) =
+unfoldable pub PurgesAll : ℕ → Header → ℕ → State → List (List Act) → Type 0
+PurgesAll budget header bound s [] = (left_of s.world ≡ 0) ⊎ (bound ≡ 0)
+PurgesAll budget header bound s (acts ∷ rest) =
     (0 < left_of s.world) × (0 < bound)
-    × ((steps : ℕ) × (left : ℕ) × PurgesAlone (min budget bound) (purge.Ran steps left) acts × AllByRecursion (AnswersBy classes s.world) acts × PurgesAll budget classes (bound - steps) (run s (by Collector acts)) rest)
+    × ((steps : ℕ) × (left : ℕ) × PurgesAlone (min budget bound) (purge.Ran steps left) acts × AllByRecursion (AnswersBy header s.world) acts × PurgesAll budget header (bound - steps) (run s (by Collector acts)) rest)
 
 -- a whole collection ran: it began, slices marked until one was idle, it was committed, sweeps found what it removed, and purges destroyed it, with at most 103 steps for each removed object
-pub record Collected (budget classes : ℕ) (s : State) (piece : List Entry) : Type 0 where
+pub record Collected (budget : ℕ) (header : Header) (s : State) (piece : List Entry) : Type 0 where
   pub begins : List Act
   pub slices : List (List Act)
   pub sweeps : List Act
@@ -113,18 +115,18 @@ pub record Collected (budget classes : ℕ) (s : State) (piece : List Entry) : T
   pub marked : SlicesUntilIdle (run s (by Collector begins)) budget slices
   pub swept : SweepsAll budget sweeps
   pub found : Sweeping begins slices sweeps front
-  pub purged : PurgesAll budget classes (103 * length (run s front).world.found) (run s front) purges
+  pub purged : PurgesAll budget header (103 * length (run s front).world.found) (run s front) purges
   pub are : piece ≡ front ++ flat_map (by Collector) purges
 
 -- a whole collection, or the answer why none began
-abbrev pub CollectorPiece : ℕ → ℕ → State → Cmd → List Entry → Type 0
-CollectorPiece budget classes s cmd.GcFull piece = ((why : Begin) × (why ≢ begin.Started) × OneCall s Collector (act.BeginGc why) piece) ⊎ Collected budget classes s piece
-CollectorPiece budget classes s _ piece = ⊥
+abbrev pub CollectorPiece : ℕ → Header → State → Cmd → List Entry → Type 0
+CollectorPiece budget header s cmd.GcFull piece = ((why : Begin) × (why ≢ begin.Started) × OneCall s Collector (act.BeginGc why) piece) ⊎ Collected budget header s piece
+CollectorPiece budget header s _ piece = ⊥
 
 -- from a state and these bindings the entries are those of the line
-abbrev pub IsPiece : ℕ → ℕ → State → Bindings → Who → Cmd → List Entry → Type 0
-IsPiece budget classes s names (who.Lane lane) what piece = LanePiece s names lane what piece
-IsPiece budget classes s names who.Gc what piece = CollectorPiece budget classes s what piece
+abbrev pub IsPiece : ℕ → Header → State → Bindings → Who → Cmd → List Entry → Type 0
+IsPiece budget header s names (who.Lane lane) what piece = LanePiece header s names lane what piece
+IsPiece budget header s names who.Gc what piece = CollectorPiece budget header s what piece
 
 -- ---- the reply in a piece
 
@@ -179,14 +181,14 @@ names_after names by what r = names
 -- ---- whole scripts
 
 -- from a state and these bindings the line has this piece and this reply, and leaves those bindings
-abbrev pub TurnBy : ℕ → ℕ → State → Bindings → Who → Cmd → List Entry → Reply → Bindings → Type 0
-TurnBy budget classes s names by what piece r new = IsPiece budget classes s names by what piece × (r ≡ reply_in s by piece) × (new ≡ names_after names by what r)
+abbrev pub TurnBy : ℕ → Header → State → Bindings → Who → Cmd → List Entry → Reply → Bindings → Type 0
+TurnBy budget header s names by what piece r new = IsPiece budget header s names by what piece × (r ≡ reply_in s by piece) × (new ≡ names_after names by what r)
 
 -- these are the pieces of the lines in order, from a state and these bindings to those
-unfoldable pub Plays : ℕ → ℕ → State → Bindings → List Line → List (List Entry) → Bindings → Type 0
-Plays budget classes s names [] [] new = new ≡ names
-Plays budget classes s names (l ∷ ls) (p ∷ ps) new = IsPiece budget classes s names l.who l.cmd p × Plays budget classes (run s p) (names_after names l.who l.cmd (reply_in s l.who p)) ls ps new
-Plays budget classes s names _ _ new = ⊥
+unfoldable pub Plays : ℕ → Header → State → Bindings → List Line → List (List Entry) → Bindings → Type 0
+Plays budget header s names [] [] new = new ≡ names
+Plays budget header s names (l ∷ ls) (p ∷ ps) new = IsPiece budget header s names l.who l.cmd p × Plays budget header (run s p) (names_after names l.who l.cmd (reply_in s l.who p)) ls ps new
+Plays budget header s names _ _ new = ⊥
 
 -- the text of lines and their pieces: line by line that of the reply in the piece
 unfoldable pub text : State → List Line → List (List Entry) → List ℕ
@@ -231,14 +233,14 @@ abbrev pub frames_after : (ℕ → Bool) → Line → ℕ → Bool
 frames_after opened l = frames_by opened l.who l.cmd
 
 -- a line has its lane's frame as it needs it, and numbers of lanes, variables and classes that are there
-abbrev pub fits_by : ℕ → List ℕ → ℕ → (ℕ → Bool) → Who → Cmd → Bool
-fits_by lanes vars classes opened (who.Lane lane) what = nat_lt lane lanes && fits_lane (slice_index vars lane) classes (opened lane) what
-fits_by lanes vars classes opened who.Gc what = fits_gc what
+abbrev pub fits_by : ℕ → List ℕ → Header → (ℕ → Bool) → Who → Cmd → Bool
+fits_by lanes vars header opened (who.Lane lane) what = nat_lt lane lanes && fits_lane (slice_index vars lane) (length header.classes.classes) (opened lane) what
+fits_by lanes vars header opened who.Gc what = fits_gc what
 
-abbrev pub fits : ℕ → List ℕ → ℕ → (ℕ → Bool) → Line → Bool
-fits lanes vars classes opened l = fits_by lanes vars classes opened l.who l.cmd
+abbrev pub fits : ℕ → List ℕ → Header → (ℕ → Bool) → Line → Bool
+fits lanes vars header opened l = fits_by lanes vars header opened l.who l.cmd
 
 -- so does each line in turn
-unfoldable pub are_fit : ℕ → List ℕ → ℕ → (ℕ → Bool) → List Line → Bool
-are_fit lanes vars classes opened [] = true
-are_fit lanes vars classes opened (l ∷ ls) = fits lanes vars classes opened l && are_fit lanes vars classes (frames_after opened l) ls
+unfoldable pub are_fit : ℕ → List ℕ → Header → (ℕ → Bool) → List Line → Bool
+are_fit lanes vars header opened [] = true
+are_fit lanes vars header opened (l ∷ ls) = fits lanes vars header opened l && are_fit lanes vars header (frames_after opened l) ls

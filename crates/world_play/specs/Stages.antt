@@ -5,6 +5,7 @@ use Rattle.world_model.specs.State.{grey_units}
 use Rattle.world_model.specs.Histories.{state_of, after, Legal}
 use Rattle.world_model.specs.Calls.{by, SlicesUntilIdle}
 use Rattle.world_model.specs.Engines.{Holdings, KeepsHeld, no_slice}
+use Rattle.world_play.specs.Header.{Header}
 use Rattle.world_play.specs.Types.{Name, Idle, Marking, Gathering, Marker, Collector, Act, Entry, Reply}
 use Rattle.world_play.specs.Types.act
 use Rattle.world_play.specs.Types.commit
@@ -79,9 +80,9 @@ abbrev pub GrowsBy : List Entry → List Entry → List (List Act) → List Act 
 GrowsBy old new slices sweeps = new ≡ ((old ++ flat_map (by (Marker 0)) slices) ++ by Collector (act.CommitGc commit.Done ∷ [])) ++ by Collector sweeps
 
 -- purges destroyed what was found
-pub record Destroys (z : Sizes) (budget classes : ℕ) (old new : List Entry) : Type 0 where
+pub record Destroys (z : Sizes) (budget : ℕ) (header : Header) (old new : List Entry) : Type 0 where
   pub purges : List (List Act)
-  pub purged : PurgesAll budget classes (103 * length (after old).found) (state_of old) purges
+  pub purged : PurgesAll budget header (103 * length (after old).found) (state_of old) purges
   pub grown : new ≡ old ++ flat_map (by Collector) purges
   pub found : (after new).found ≡ (after old).found
   pub opened : (after new).opened ≡ (after old).opened
@@ -89,14 +90,14 @@ pub record Destroys (z : Sizes) (budget classes : ℕ) (old new : List Entry) : 
   pub alone : IsTrue (no_slice (after new))
 
 -- the rest of a whole collection, once it has begun: it marked, was committed, found what it removed, and destroyed it
-pub record GoesOn (z : Sizes) (budget classes : ℕ) (old new : List Entry) (before now : Holdings) (r : Reply) : Type 0 where
+pub record GoesOn (z : Sizes) (budget : ℕ) (header : Header) (old new : List Entry) (before now : Holdings) (r : Reply) : Type 0 where
   pub slices : List (List Act)
   pub sweeps : List Act
   pub front : List Entry
   pub marked : SlicesUntilIdle (state_of old) budget slices
   pub swept : SweepsAll budget sweeps
   pub grown : GrowsBy old front slices sweeps
-  pub destroys : Destroys z budget classes front new
+  pub destroys : Destroys z budget header front new
   pub answer : r ≡ full_reply (after new) begin.Started
   pub opened : (after front).opened ≡ (after old).opened
   pub held : KeepsHeld before now
@@ -111,10 +112,10 @@ pub record GoesOnSome (z : Sizes) (budget : ℕ) (old new : List Entry) : Type 0
   pub legal : Legal z new
 
 -- a whole collection, or why none began
-pub record Collects (z : Sizes) (budget classes : ℕ) (old new : List Entry) (before now : Holdings) (r : Reply) : Type 0 where
+pub record Collects (z : Sizes) (budget : ℕ) (header : Header) (old new : List Entry) (before now : Holdings) (r : Reply) : Type 0 where
   pub piece : List Entry
   pub grown : new ≡ old ++ piece
-  pub calls : CollectorPiece budget classes (state_of old) cmd.GcFull piece
+  pub calls : CollectorPiece budget header (state_of old) cmd.GcFull piece
   pub answer : r ≡ reply_in (state_of old) who.Gc piece
   pub legal : Legal z new
   pub alone : IsTrue (no_slice (after new))

@@ -5,6 +5,7 @@ use Rattle.world_model.specs.World.{World, is_open}
 use Rattle.world_model.specs.State.{State, beginning}
 use Rattle.world_model.specs.Histories.{state_of, after, Legal}
 use Rattle.world_model.specs.Engines.{Holdings, no_slice}
+use Rattle.world_play.specs.Header.{Header}
 use Rattle.world_play.specs.Types.{Entry, Line, Who, Cmd, Reply, Lane}
 use Rattle.world_play.specs.Plays.{Bindings, no_bindings, IsPiece, IsPart, reply_in, TurnBy, Plays, text, entries_of, fits_by, frames_by}
 use Rattle.world_play.specs.Text.{text_of}
@@ -17,17 +18,18 @@ abbrev pub frames_of : World → ℕ → Bool
 frames_of w lane = is_open w (Lane lane)
 
 -- A line can be played, behind so many others: its lane, its variables and its class are there, and its lane's frame is as it needs it.
-pub record IsReady (z : Sizes) (history : List Entry) (holds : Holdings) (lanes : List LaneVariables) (played classes : ℕ) (by : Who) (what : Cmd) : Type 0 where
-  pub fit : fits_by z.lanes (numbers_of lanes) classes (frames_of (after history)) by what ≡ true
+pub record IsReady (z : Sizes) (history : List Entry) (holds : Holdings) (lanes : List LaneVariables) (played : ℕ) (header : Header) (by : Who) (what : Cmd) : Type 0 where
+  pub fit : fits_by z.lanes (numbers_of lanes) header (frames_of (after history)) by what ≡ true
   pub count : length lanes ≡ z.lanes
   pub legal : Legal z history
   pub alone : IsTrue (no_slice (after history))
   pub kept : AreKept holds lanes played
   pub room : played + 1 < 2 ^ 64
+  pub slots : header.classes.slots ≡ z.slots
 
 -- A line was played.
-pub record Turned (z : Sizes) (budget classes : ℕ) (old new : List Entry) (holds : Holdings) (before now : List LaneVariables) (played : ℕ) (by : Who) (what : Cmd) (r : Reply) : Type 0 where
-  pub turn : (piece : List Entry) × (new ≡ old ++ piece) × TurnBy budget classes (state_of old) (shown before) by what piece r (shown now)
+pub record Turned (z : Sizes) (budget : ℕ) (header : Header) (old new : List Entry) (holds : Holdings) (before now : List LaneVariables) (played : ℕ) (by : Who) (what : Cmd) (r : Reply) : Type 0 where
+  pub turn : (piece : List Entry) × (new ≡ old ++ piece) × TurnBy budget header (state_of old) (shown before) by what piece r (shown now)
   pub frames : frames_of (after new) ≡ frames_by (frames_of (after old)) by what
   pub numbers : numbers_of now ≡ numbers_of before
   pub legal : Legal z new
@@ -35,43 +37,43 @@ pub record Turned (z : Sizes) (budget classes : ℕ) (old new : List Entry) (hol
   pub kept : AreKept holds now (played + 1)
 
 -- A line was not answered: some of its calls were made, or all of them.
-pub record Broken (z : Sizes) (budget classes : ℕ) (old new : List Entry) (names : Bindings) (by : Who) (what : Cmd) : Type 0 where
+pub record Broken (z : Sizes) (budget : ℕ) (header : Header) (old new : List Entry) (names : Bindings) (by : Who) (what : Cmd) : Type 0 where
   pub part : List Entry
   pub grown : new ≡ old ++ part
-  pub made : IsPart budget (state_of old) by what part ⊎ IsPiece budget classes (state_of old) names by what part
+  pub made : IsPart budget (state_of old) by what part ⊎ IsPiece budget header (state_of old) names by what part
   pub legal : Legal z new
 
 -- A line was played, and its reply put.
-pub record Answered (z : Sizes) (budget classes : ℕ) (old new : List Entry) (holds : Holdings) (before now : List LaneVariables) (played : ℕ) (l : Line) (had has : Option (List ℕ)) : Type 0 where
+pub record Answered (z : Sizes) (budget : ℕ) (header : Header) (old new : List Entry) (holds : Holdings) (before now : List LaneVariables) (played : ℕ) (l : Line) (had has : Option (List ℕ)) : Type 0 where
   pub reply : Reply
-  pub turned : Turned z budget classes old new holds before now played l.who l.cmd reply
+  pub turned : Turned z budget header old new holds before now played l.who l.cmd reply
   pub put : Gained had has (text_of reply)
 
 -- the lines end here; or of the next line some calls were made and nothing was put, or all calls were made and a beginning of its text was put
-abbrev pub Stops : ℕ → ℕ → State → Bindings → List Line → List Entry → List ℕ → Type 0
-Stops budget classes s names [] part some = (part ≡ []) × (some ≡ [])
-Stops budget classes s names (l ∷ ls) part some = (IsPart budget s l.who l.cmd part × (some ≡ [])) ⊎ (IsPiece budget classes s names l.who l.cmd part × IsStart some (text_of (reply_in s l.who part)))
+abbrev pub Stops : ℕ → Header → State → Bindings → List Line → List Entry → List ℕ → Type 0
+Stops budget header s names [] part some = (part ≡ []) × (some ≡ [])
+Stops budget header s names (l ∷ ls) part some = (IsPart budget s l.who l.cmd part × (some ≡ [])) ⊎ (IsPiece budget header s names l.who l.cmd part × IsStart some (text_of (reply_in s l.who part)))
 
 -- A line was not played, or its reply was not put as a whole.
-pub record Unanswered (z : Sizes) (budget classes : ℕ) (old new : List Entry) (names : Bindings) (l : Line) (had has : Option (List ℕ)) : Type 0 where
+pub record Unanswered (z : Sizes) (budget : ℕ) (header : Header) (old new : List Entry) (names : Bindings) (l : Line) (had has : Option (List ℕ)) : Type 0 where
   pub part : List Entry
   pub some : List ℕ
   pub grown : new ≡ old ++ part
-  pub stops : Stops budget classes (state_of old) names (l ∷ []) part some
+  pub stops : Stops budget header (state_of old) names (l ∷ []) part some
   pub legal : Legal z new
   pub put : Gained had has some
 
 -- The lines were played from the beginning, and their replies put: the history is legal, it is cut into the pieces of the lines, and what was put is their text.
-pub record Played (z : Sizes) (budget classes : ℕ) (lines : List Line) (history : List Entry) (had has : Option (List ℕ)) : Type 0 where
+pub record Played (z : Sizes) (budget : ℕ) (header : Header) (lines : List Line) (history : List Entry) (had has : Option (List ℕ)) : Type 0 where
   pub pieces : List (List Entry)
   pub last : Bindings
   pub legal : Legal z history
   pub cut : history ≡ entries_of pieces
-  pub plays : Plays budget classes beginning no_bindings lines pieces last
+  pub plays : Plays budget header beginning no_bindings lines pieces last
   pub put : Gained had has (text beginning lines pieces)
 
 -- The first lines were played, and so many replies put as a whole; of the next line perhaps some calls were made, or all of them and a beginning of its text was put.
-pub record Stopped (z : Sizes) (budget classes : ℕ) (lines : List Line) (history : List Entry) (had has : Option (List ℕ)) (count : ℕ) : Type 0 where
+pub record Stopped (z : Sizes) (budget : ℕ) (header : Header) (lines : List Line) (history : List Entry) (had has : Option (List ℕ)) (count : ℕ) : Type 0 where
   pub whole : List Line
   pub rest : List Line
   pub pieces : List (List Entry)
@@ -81,7 +83,7 @@ pub record Stopped (z : Sizes) (budget classes : ℕ) (lines : List Line) (histo
   pub legal : Legal z history
   pub are : lines ≡ whole ++ rest
   pub cut : history ≡ entries_of pieces ++ part
-  pub plays : Plays budget classes beginning no_bindings whole pieces names
-  pub stops : Stops budget classes (state_of (entries_of pieces)) names rest part some
+  pub plays : Plays budget header beginning no_bindings whole pieces names
+  pub stops : Stops budget header (state_of (entries_of pieces)) names rest part some
   pub put : Gained had has (text beginning whole pieces ++ some)
   pub number : count ≡ length whole

@@ -10,9 +10,9 @@ ghost use Rattle.world_play.specs.Plays.{Bindings, full_reply};
 ghost use Rattle.world_play.specs.Stages.{IsMarking, Marks, IsGathering, Finds, FindsSome, HasSwept, Destroys, GoesOn, GoesOnSome, Collects};
 ghost use Rattle.world_play.specs.Turns.{Broken};
 
+use crate::header::Header;
 use crate::hooks::ClassHooks;
 use crate::reply::Reply;
-use level_script::ClassTable;
 use std::alloc::{AllocError, Global};
 use world_model::{Begin, Engine, MarkStop, Name, Names, Purged, Shape, SweepStop};
 
@@ -81,7 +81,7 @@ fn refusal(why: Begin) -> Reply
 /// steps were made for each. It tells how many are left.
 fn purge_all<S: Shape, E: Engine<S>>(
     engine: &mut E,
-    classes: &ClassTable,
+    header: &Header<'_>,
     removed: u32,
     budget: u32,
 ) -> u32
@@ -89,11 +89,13 @@ fn purge_all<S: Shape, E: Engine<S>>(
     requires few { removed ≤ 1048576 }
     requires swept { HasSwept S.sizes (E.history engine.old) }
     requires found { removed ≡ length (after (E.history engine.old)).found }
-    ensures destroys { Destroys S.sizes budget (length classes.now) (E.history engine.old) (E.history engine.new) }
+    ensures destroys { Destroys S.sizes budget header.now (E.history engine.old) (E.history engine.new) }
     ensures left { result ≡ left_of (after (E.history engine.new)) }
     ensures held { KeepsHeld (E.holds engine.old) (E.holds engine.new) }
 {
-    let mut hooks = ClassHooks { classes };
+    let mut hooks = ClassHooks {
+        classes: header.classes,
+    };
     let mut bound = removed * STEPS;
     let mut left = engine.left();
     'purges: loop {
@@ -114,12 +116,12 @@ fn purge_all<S: Shape, E: Engine<S>>(
 fn go_on<S: Shape, E: Engine<S>>(
     alloc: Global,
     engine: &mut E,
-    classes: &ClassTable,
+    header: &Header<'_>,
     budget: u32,
 ) -> Result<Reply, AllocError>
     requires some { 1 ≤ budget }
     requires marking { IsMarking S.sizes (E.history engine.old) }
-    ensures all { IfOk result (λ reply. GoesOn S.sizes budget (length classes.now) (E.history engine.old) (E.history engine.new) (E.holds engine.old) (E.holds engine.new) reply) }
+    ensures all { IfOk result (λ reply. GoesOn S.sizes budget header.now (E.history engine.old) (E.history engine.new) (E.holds engine.old) (E.holds engine.new) reply) }
     ensures some { OnErr result (GoesOnSome S.sizes budget (E.history engine.old) (E.history engine.new)) }
 {
     mark_all::<S, E>(engine, budget);
@@ -127,7 +129,7 @@ fn go_on<S: Shape, E: Engine<S>>(
     let mut names = sweep_all::<S, E>(alloc, engine, budget)?;
     names.sort_unstable();
     let removed = names.len() as u32;
-    let left = purge_all::<S, E>(engine, classes, removed, budget);
+    let left = purge_all::<S, E>(engine, header, removed, budget);
     Ok(Reply::FullGc(removed, left, Names::from_vec(names)))
 }
 
@@ -135,17 +137,17 @@ fn go_on<S: Shape, E: Engine<S>>(
 pub(crate) fn full<S: Shape, E: Engine<S>>(
     alloc: Global,
     engine: &mut E,
-    classes: &ClassTable,
+    header: &Header<'_>,
     budget: u32,
 ) -> Result<Reply, AllocError>
     requires some { 1 ≤ budget }
     requires legal { Legal S.sizes (E.history engine.old) }
     requires alone { IsTrue (no_slice (after (E.history engine.old))) }
-    ensures all { IfOk result (λ reply. Collects S.sizes budget (length classes.now) (E.history engine.old) (E.history engine.new) (E.holds engine.old) (E.holds engine.new) reply) }
-    ensures some { OnErr result ((names : Bindings) → Broken S.sizes budget (length classes.now) (E.history engine.old) (E.history engine.new) names who.Gc cmd.GcFull) }
+    ensures all { IfOk result (λ reply. Collects S.sizes budget header.now (E.history engine.old) (E.history engine.new) (E.holds engine.old) (E.holds engine.new) reply) }
+    ensures some { OnErr result ((names : Bindings) → Broken S.sizes budget header.now (E.history engine.old) (E.history engine.new) names who.Gc cmd.GcFull) }
 {
     match engine.begin() {
-        Begin::Started => go_on::<S, E>(alloc, engine, classes, budget),
+        Begin::Started => go_on::<S, E>(alloc, engine, header, budget),
         why => Ok(refusal(why)),
     }
 }

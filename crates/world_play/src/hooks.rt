@@ -13,12 +13,12 @@ pub struct ClassHooks<'a> {
 }
 
 impl Hooks for ClassHooks<'_> {
-    ghost use Rattle.std.specs.Prelude.{◌≡◌, length, None};
+    ghost use Rattle.std.specs.Prelude.{◌≡◌, None};
     ghost use Rattle.world_play.specs.Plays.{is_ready};
 
     ghost calls = { λ _. None };
 
-    ghost test = { λ h n class poll answer. answer ≡ is_ready (length h.classes.now) class poll };
+    ghost test = { λ h n class poll answer. answer ≡ is_ready h.classes.now class poll };
 
     fn begin(&mut self, name: Name, class: ClassId) {
         let _ = name;

@@ -6,9 +6,9 @@ ghost use Rattle.world_model.specs.Engines.{act_of_refusal};
 ghost use Rattle.world_play.specs.Plays.{lane_reply};
 ghost use Rattle.world_play.specs.Turns.{IsReady, Turned};
 
+use crate::header::Header;
 use crate::reply::Reply;
 use crate::variables::LaneVariables;
-use level_script::ClassTable;
 use world_model::{ClassId, CreateErr, Engine, Name, Ref, Shape};
 
 /// What stands in a buffer before an object is made.
@@ -20,13 +20,15 @@ const NO_REF: Ref = Ref {
 /// `open`, behind so many lines.
 pub(crate) fn open<S: Shape, E: Engine<S>>(
     engine: &mut E,
+    header: &Header<'_>,
     lanes: &[LaneVariables],
     played: usize,
     lane: u32,
 ) -> Reply
-    requires { IsReady S.sizes (E.history engine.old) (E.holds engine.old) lanes.now played 0 (who.Lane lane) cmd.Open }
-    ensures { (budget count : ℕ) → Turned S.sizes budget count (E.history engine.old) (E.history engine.new) (E.holds engine.new) lanes.now lanes.now played (who.Lane lane) cmd.Open result }
+    requires { IsReady S.sizes (E.history engine.old) (E.holds engine.old) lanes.now played header.now (who.Lane lane) cmd.Open }
+    ensures { (budget : ℕ) → Turned S.sizes budget header.now (E.history engine.old) (E.history engine.new) (E.holds engine.new) lanes.now lanes.now played (who.Lane lane) cmd.Open result }
 {
+    let _ = header;
     let _ = lanes;
     let _ = played;
     let phase = engine.open_frame(lane);
@@ -36,13 +38,15 @@ pub(crate) fn open<S: Shape, E: Engine<S>>(
 /// `close`, behind so many lines.
 pub(crate) fn close<S: Shape, E: Engine<S>>(
     engine: &mut E,
+    header: &Header<'_>,
     lanes: &mut [LaneVariables],
     played: usize,
     lane: u32,
 ) -> Reply
-    requires { IsReady S.sizes (E.history engine.old) (E.holds engine.old) lanes.old played 0 (who.Lane lane) cmd.Close }
-    ensures { (budget count : ℕ) → Turned S.sizes budget count (E.history engine.old) (E.history engine.new) (E.holds engine.new) lanes.old lanes.new played (who.Lane lane) cmd.Close result }
+    requires { IsReady S.sizes (E.history engine.old) (E.holds engine.old) lanes.old played header.now (who.Lane lane) cmd.Close }
+    ensures { (budget : ℕ) → Turned S.sizes budget header.now (E.history engine.old) (E.history engine.new) (E.holds engine.new) lanes.old lanes.new played (who.Lane lane) cmd.Close result }
 {
+    let _ = header;
     let _ = played;
     engine.close_frame(lane);
     lanes[lane as usize].end();
@@ -61,15 +65,17 @@ fn refusal(lane: u32, why: CreateErr) -> Reply
 /// `root V on` or `root V off`, behind so many lines.
 pub(crate) fn root<S: Shape, E: Engine<S>>(
     engine: &mut E,
+    header: &Header<'_>,
     lanes: &[LaneVariables],
     played: usize,
     lane: u32,
     var: u32,
     on: bool,
 ) -> Reply
-    requires { IsReady S.sizes (E.history engine.old) (E.holds engine.old) lanes.now played 0 (who.Lane lane) (cmd.Root var on) }
-    ensures { (budget count : ℕ) → Turned S.sizes budget count (E.history engine.old) (E.history engine.new) (E.holds engine.new) lanes.now lanes.now played (who.Lane lane) (cmd.Root var on) result }
+    requires { IsReady S.sizes (E.history engine.old) (E.holds engine.old) lanes.now played header.now (who.Lane lane) (cmd.Root var on) }
+    ensures { (budget : ℕ) → Turned S.sizes budget header.now (E.history engine.old) (E.history engine.new) (E.holds engine.new) lanes.now lanes.now played (who.Lane lane) (cmd.Root var on) result }
 {
+    let _ = header;
     let _ = played;
     let Some(at) = lanes[lane as usize].get(var) else {
         return Reply::NoObject(lane);
@@ -81,18 +87,18 @@ pub(crate) fn root<S: Shape, E: Engine<S>>(
 /// `new V CLASS`, behind so many lines.
 pub(crate) fn make<S: Shape, E: Engine<S>>(
     engine: &mut E,
-    classes: &ClassTable,
+    header: &Header<'_>,
     lanes: &mut [LaneVariables],
     played: usize,
     lane: u32,
     var: u32,
     class: ClassId,
 ) -> Reply
-    requires { IsReady S.sizes (E.history engine.old) (E.holds engine.old) lanes.old played (length classes.now) (who.Lane lane) (cmd.New var class) }
-    ensures { (budget count : ℕ) → Turned S.sizes budget count (E.history engine.old) (E.history engine.new) (E.holds engine.new) lanes.old lanes.new played (who.Lane lane) (cmd.New var class) result }
+    requires { IsReady S.sizes (E.history engine.old) (E.holds engine.old) lanes.old played header.now (who.Lane lane) (cmd.New var class) }
+    ensures { (budget : ℕ) → Turned S.sizes budget header.now (E.history engine.old) (E.history engine.new) (E.holds engine.new) lanes.old lanes.new played (who.Lane lane) (cmd.New var class) result }
 {
     let _ = played;
-    let kind = classes.kind(class);
+    let kind = header.classes.kind(class);
     let mut out = [NO_REF];
     match engine.create(lane, &[kind], &mut out) {
         Ok(()) => {

@@ -1,6 +1,6 @@
 //! The player of level scripts, and the program as one call.
 //!
-//! It stands on `level_script` for what a script is, on `world_model` for what an engine does, on
+//! It stands on `level_script` for what a script is, on `class_schema` for its classes, on `world_model` for what an engine does, on
 //! `heap_plain` for an engine, and on `play_io` for the outside. The player is written over any
 //! engine. `specs/Plays` says when a history plays lines, `specs/Text` has the text of a reply, and
 //! `specs/Ends` what a whole run has done.
@@ -9,6 +9,7 @@
 #![tactic(auto)]
 
 mod collection;
+mod header;
 mod hooks;
 mod lane;
 mod laws;
@@ -28,6 +29,7 @@ mod words;
 #[cfg(test)]
 mod words_tests;
 
+pub use header::Header;
 pub use hooks::ClassHooks;
 pub use laws::one_text;
 pub use play_io::{

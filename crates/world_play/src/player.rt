@@ -5,11 +5,12 @@ ghost use Rattle.world_play.specs.Streams.{PutCounts};
 ghost use Rattle.world_play.specs.Turns.{IsReady, Answered, Unanswered, Played, Stopped};
 ghost use Rattle.world_play.specs.Variables.{shown};
 
+use crate::header::Header;
 use crate::stream::put_all;
 use crate::text;
 use crate::turn::turn;
 use crate::variables::{LaneVariables, unbound};
-use level_script::{ClassTable, Line};
+use level_script::Line;
 use play_io::{PutErr, Sink};
 use std::alloc::Global;
 use world_model::{Engine, Shape};
@@ -18,7 +19,7 @@ use world_model::{Engine, Shape};
 fn play_line<S: Shape, E: Engine<S>, K: Sink>(
     alloc: Global,
     engine: &mut E,
-    classes: &ClassTable,
+    header: &Header<'_>,
     lanes: &mut [LaneVariables],
     played: usize,
     budget: u32,
@@ -26,12 +27,12 @@ fn play_line<S: Shape, E: Engine<S>, K: Sink>(
     out: &mut K,
 ) -> Result<(), PutErr>
     requires some { 1 ≤ budget }
-    requires ready { IsReady S.sizes (E.history engine.old) (E.holds engine.old) lanes.old played (length classes.now) line.who line.cmd }
+    requires ready { IsReady S.sizes (E.history engine.old) (E.holds engine.old) lanes.old played header.now line.who line.cmd }
     ensures faults { PutCounts (K.faults out.old) (K.faults out.new) result }
-    ensures answered { OnOk result (Answered S.sizes budget (length classes.now) (E.history engine.old) (E.history engine.new) (E.holds engine.new) lanes.old lanes.new played line (K.held out.old) (K.held out.new)) }
-    ensures unanswered { OnErr result (Unanswered S.sizes budget (length classes.now) (E.history engine.old) (E.history engine.new) (shown lanes.old) line (K.held out.old) (K.held out.new)) }
+    ensures answered { OnOk result (Answered S.sizes budget header.now (E.history engine.old) (E.history engine.new) (E.holds engine.new) lanes.old lanes.new played line (K.held out.old) (K.held out.new)) }
+    ensures unanswered { OnErr result (Unanswered S.sizes budget header.now (E.history engine.old) (E.history engine.new) (shown lanes.old) line (K.held out.old) (K.held out.new)) }
 {
-    let Ok(reply) = turn::<S, E>(alloc, engine, classes, lanes, played, budget, line) else {
+    let Ok(reply) = turn::<S, E>(alloc, engine, header, lanes, played, budget, line) else {
         return Err(PutErr::Memory);
     };
     let Ok(text) = text::line(alloc, &reply) else {
@@ -45,7 +46,7 @@ fn play_line<S: Shape, E: Engine<S>, K: Sink>(
 pub fn play<S: Shape, E: Engine<S>, K: Sink>(
     alloc: Global,
     engine: &mut E,
-    classes: &ClassTable,
+    header: &Header<'_>,
     lines: &[Line],
     counts: &[u32],
     budget: u32,
@@ -54,13 +55,14 @@ pub fn play<S: Shape, E: Engine<S>, K: Sink>(
 ) -> Result<(), PutErr>
     requires some { 1 ≤ budget }
     requires lanes { length counts.now ≡ S.sizes.lanes }
-    requires framed { are_framed counts.now (length classes.now) (replicate S.sizes.lanes false) lines.now ≡ true }
+    requires framed { are_framed counts.now (length header.now.classes.classes) (replicate S.sizes.lanes false) lines.now ≡ true }
+    requires slots { header.now.classes.slots ≡ S.sizes.slots }
     requires start { E.history engine.old ≡ [] }
     requires none { written.old ≡ 0 }
     ensures faults { PutCounts (K.faults out.old) (K.faults out.new) result }
-    ensures plays { OnOk result (Played S.sizes budget (length classes.now) lines.now (E.history engine.new) (K.held out.old) (K.held out.new)) }
+    ensures plays { OnOk result (Played S.sizes budget header.now lines.now (E.history engine.new) (K.held out.old) (K.held out.new)) }
     ensures written { OnOk result (written.new ≡ length lines.now) }
-    ensures stopped { OnErr result (Stopped S.sizes budget (length classes.now) lines.now (E.history engine.new) (K.held out.old) (K.held out.new) written.new) }
+    ensures stopped { OnErr result (Stopped S.sizes budget header.now lines.now (E.history engine.new) (K.held out.old) (K.held out.new) written.new) }
 {
     let Ok(mut variables) = unbound(alloc, counts) else {
         return Err(PutErr::Memory);
@@ -68,7 +70,7 @@ pub fn play<S: Shape, E: Engine<S>, K: Sink>(
     let lanes = variables.as_mut_slice();
     for played in 0..lines.len() {
         let line = lines[played];
-        play_line::<S, E, K>(alloc, engine, classes, lanes, played, budget, line, out)?;
+        play_line::<S, E, K>(alloc, engine, header, lanes, played, budget, line, out)?;
         *written += 1;
     }
     Ok(())

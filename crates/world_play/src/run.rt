@@ -6,6 +6,7 @@ ghost use Rattle.world_play.specs.Words.{sizes_of};
 ghost use Rattle.world_play.specs.Ends.{said, shape_said, limits_of, limits_in, history_of, HasShape, WasTaken, IsScript, Refuses, IsBefore, WritesFault, HasRun, WasPlayed, OnDone, OnStopped, OnNone, SaysScript, SaysTaken, SaysRead, SaysWrite, Headline, EndsEarly, WritesOutcome, CountsLines, TellsScript, Completes, IsSure};
 ghost use Rattle.world_play.specs.declared.status.Status.TheVariants as status;
 
+use crate::header::Header;
 use crate::player::play;
 use crate::status::Status;
 use crate::stream::{ReadErr, read_all};
@@ -124,11 +125,15 @@ fn perform<S: Shape, K: Sink>(
             engine: None,
         };
     };
+    let header = Header {
+        classes: &script.classes,
+        fields: &script.fields,
+    };
     let mut lines = 0;
     let status = match play::<S, PlainHeap<S>, K>(
         alloc,
         &mut engine,
-        &script.classes,
+        &header,
         script.lines.as_slice(),
         script.vars.as_slice(),
         slice,

@@ -10,10 +10,10 @@ abbrev pub invariant-purges : goal.invariant-purges
 invariant-purges g l =
     let history = g.E.Engine.history in
     record {
-      on : DestroysOn g.S.Shape.sizes l.budget (length l.classes) (history l.fn.engine) (history l.engine) (103 * length (after (history l.fn.engine)).found) l.bound;
+      on : DestroysOn g.S.Shape.sizes l.budget l.header (history l.fn.engine) (history l.engine) (103 * length (after (history l.fn.engine)).found) l.bound;
       left : l.left ≡ left_of (after (history l.engine));
       held : KeepsHeld (g.E.Engine.holds l.fn.engine) (g.E.Engine.holds l.engine);
-      tested : IsByClass (length l.classes) (λ n class poll answer. answer ≡ is_ready (length l.hooks.classes.now) class poll);
+      tested : IsByClass l.header (λ n class poll answer. answer ≡ is_ready l.hooks.classes.now class poll);
     }
 
 abbrev pub decreases-purges : goal.decreases-purges

@@ -6,7 +6,7 @@ use Rattle.world_play.proofs.Turning.{close_frames, fit_lane, said_alone}
 use Rattle.world_play.proofs.lane.close.Goals as goal
 
 pub returns : goal.returns
-returns g c budget count =
+returns g c budget =
     let h = c.close_frame.ensures.entries in
     let l = get_or c.args.lanes.now c.args.lane c.index-lanes-lane.result in
     let inside = fit_lane c.args.lane _ (length c.args.lanes.now) _ c.requires.count c.requires.fit in

@@ -4,6 +4,8 @@ use Rattle.std.proofs.lemmas.Option.{slice_get-get_or}
 use Rattle.world_model.specs.World.{made}
 use Rattle.world_model.specs.Histories.{after}
 use Rattle.world_model.proofs.Solo.{slices_closed}
+use Rattle.class_schema.specs.Table.{kind_of}
+use Rattle.world_play.specs.Header.{Header}
 use Rattle.world_play.specs.Types.{Name, Ref, Kind}
 use Rattle.world_play.specs.Types.act
 use Rattle.world_play.specs.Types.reply
@@ -14,7 +16,7 @@ use Rattle.world_play.proofs.Turning.{make_frames, refuse_frames, fit_lane, fit_
 use Rattle.world_play.proofs.lane.make.Goals as goal
 
 pub returns-in-Ok : goal.returns-in-Ok
-returns-in-Ok g c budget classes =
+returns-in-Ok g c budget =
     let h = c.in-Ok.ensures.entries in
     let lane = c.args.lane in
     let lanes = c.args.lanes.now in
@@ -31,7 +33,7 @@ returns-in-Ok g c budget classes =
         _,
         h.grown,
         (
-          inl (count, (h.acts, h.call ∙ ap (λ (k : Kind). act.Make (k ∷ []) count ∷ []) c.kind-kind.ensures.kind, refl)),
+          inl (count, (h.acts, h.call ∙ ap (λ (k : Kind). act.Make (k ∷ []) count ∷ []) (c.kind-kind.ensures.kind ∙ ap (λ (t : Header). kind_of t.classes c.args.class) c.header.view_is), refl)),
           ap (reply.New lane) name ∙ said_alone lane _ h.acts h.call,
           bind_shown lanes lane c.args.var l _ (Some new) at inside c.bind.ensures.frame c.bind.ensures.slots var,
         ),
@@ -44,7 +46,7 @@ returns-in-Ok g c budget classes =
     }
 
 pub returns-in-Err : goal.returns-in-Err
-returns-in-Err g c budget classes =
+returns-in-Err g c budget =
     let h = c.in-Err.ensures.entries in
     let lane = c.args.lane in
     let lanes = c.args.lanes.now in

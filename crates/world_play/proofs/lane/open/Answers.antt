@@ -5,7 +5,7 @@ use Rattle.world_play.proofs.Turning.{open_frames, said_alone}
 use Rattle.world_play.proofs.lane.open.Goals as goal
 
 pub returns : goal.returns
-returns g c budget count =
+returns g c budget =
     let h = c.open_frame-phase.ensures.entries in
     record {
       turn = (_, h.grown, ((c.open_frame-phase.result, (h.acts, h.call, refl)), said_alone c.args.lane _ h.acts h.call, refl));

@@ -8,7 +8,7 @@ use Rattle.world_play.proofs.Turning.{root_frames, fit_lane, no_object, an_objec
 use Rattle.world_play.proofs.lane.root.Goals as goal
 
 pub returns-in_default : goal.returns-in_default
-returns-in_default g c budget count =
+returns-in_default g c budget =
     let inside = fit_lane c.args.lane _ (length c.args.lanes.now) _ c.requires.count c.requires.fit in
     let at = slice_get_read c.args.lanes.now (length c.args.lanes.now) c.args.lane c.index-lanes-lane.result refl inside c.index-lanes-lane.is in
     let stands = own_ref c.args.lanes.now c.args.lane c.index-lanes-lane.result c.args.var at ∙ sym c.get.ensures ∙ c.in_default.is in
@@ -28,7 +28,7 @@ set_root-was-requires-clause-at g c =
     c.requires.kept.held c.args.lane c.args.var c.in-Some.at (own_ref c.args.lanes.now c.args.lane c.index-lanes-lane.result c.args.var at ∙ sym c.get.ensures ∙ c.in-Some.is)
 
 pub returns : goal.returns
-returns g c budget count =
+returns g c budget =
     let h = c.set_root-was.ensures.entries in
     let inside = fit_lane c.args.lane _ (length c.args.lanes.now) _ c.requires.count c.requires.fit in
     let at = slice_get_read c.args.lanes.now (length c.args.lanes.now) c.args.lane c.index-lanes-lane.result refl inside c.index-lanes-lane.is in

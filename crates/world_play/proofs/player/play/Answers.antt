@@ -18,10 +18,10 @@ pub loop-played-init : goal.loop-played-init
 unfolding text
 loop-played-init g c = rw (c.as_mut_slice-lanes.ensures.value, c.requires.start) (record {
   pieces = [];
-  plays = subst (λ (names : Bindings). Plays c.args.budget (length c.args.classes.now) beginning no_bindings [] [] names) (sym (fresh_shown _ _ c.in-Ok.ensures)) (plays_none c.args.budget (length c.args.classes.now) beginning no_bindings);
+  plays = subst (λ (names : Bindings). Plays c.args.budget c.args.header.now beginning no_bindings [] [] names) (sym (fresh_shown _ _ c.in-Ok.ensures)) (plays_none c.args.budget c.args.header.now beginning no_bindings);
   cut = refl;
   put = gained_none _;
-  fit = framed_fit c.args.counts.now (length c.args.classes.now) _ _ _ c.args.lines.now (length-replicate _ false) (all_closed _) c.requires.framed;
+  fit = framed_fit c.args.counts.now c.args.header.now _ _ _ c.args.lines.now (length-replicate _ false) (all_closed _) c.requires.framed;
   numbers = fresh_numbers _ _ c.in-Ok.ensures;
   legal = tt;
   alone = refl;
@@ -33,7 +33,7 @@ loop-played-init g c = rw (c.as_mut_slice-lanes.ensures.value, c.requires.start)
 pub play_line-requires-clause-ready : goal.play_line-requires-clause-ready
 play_line-requires-clause-ready g c =
     let i = c.loop-played.invariant in
-    let fit = fit_at _ c.args.counts.now (length c.args.classes.now) _ c.args.lines.now c.loop-played.played (record { number = 0; who = who.Lane 0; cmd = cmd.Open }) c.loop-played-test.true i.fit in
+    let fit = fit_at _ c.args.counts.now c.args.header.now _ c.args.lines.now c.loop-played.played (record { number = 0; who = who.Lane 0; cmd = cmd.Open }) c.loop-played-test.true i.fit in
     record {
       fit = rw i.numbers fit.0;
       count = sym (length-map _ _) ∙ ap length i.numbers ∙ c.requires.lanes;
@@ -41,6 +41,7 @@ play_line-requires-clause-ready g c =
       alone = i.alone;
       kept = i.kept;
       room = omega arith;
+      slots = c.requires.slots;
     }
 
 pub loop-played-preserved : goal.loop-played-preserved
@@ -51,13 +52,13 @@ loop-played-preserved g c =
     let none : Line = record { number = 0; who = who.Lane 0; cmd = cmd.Open } in
     let line : Line = get_or c.args.lines.now c.loop-played.played none in
     let before : List Line = take c.loop-played.played c.args.lines.now in
-    let fit = fit_at _ c.args.counts.now (length c.args.classes.now) _ c.args.lines.now c.loop-played.played none c.loop-played-test.true i.fit in
-    let turn = subst (λ (h : List Entry). TurnBy c.args.budget (length c.args.classes.now) (state_of h) (shown c.loop-played.lanes) line.who line.cmd t.turn.0 a.reply (shown c.play_line.new.lanes)) i.cut t.turn.2 in
+    let fit = fit_at _ c.args.counts.now c.args.header.now _ c.args.lines.now c.loop-played.played none c.loop-played-test.true i.fit in
+    let turn = subst (λ (h : List Entry). TurnBy c.args.budget c.args.header.now (state_of h) (shown c.loop-played.lanes) line.who line.cmd t.turn.0 a.reply (shown c.play_line.new.lanes)) i.cut t.turn.2 in
     rw (take_more c.args.lines.now c.loop-played.played none c.loop-played-test.true) (record {
       pieces = i.pieces ++ t.turn.0 ∷ [];
-      plays = plays_more c.args.budget (length c.args.classes.now) beginning no_bindings _ _ before line i.pieces t.turn.0 a.reply i.plays turn;
+      plays = plays_more c.args.budget c.args.header.now beginning no_bindings _ _ before line i.pieces t.turn.0 a.reply i.plays turn;
       cut = t.turn.1 ∙ ap (λ (h : List Entry). h ++ t.turn.0) i.cut ∙ sym (entries_more i.pieces t.turn.0);
-      put = subst (Gained (g.K.Sink.held c.args.out.now) (g.K.Sink.held c.play_line.new.out)) (ap (λ (r : Reply). text beginning before i.pieces ++ text_of r) turn.1 ∙ sym (text_more c.args.budget (length c.args.classes.now) beginning no_bindings _ before line i.pieces t.turn.0 i.plays))
+      put = subst (Gained (g.K.Sink.held c.args.out.now) (g.K.Sink.held c.play_line.new.out)) (ap (λ (r : Reply). text beginning before i.pieces ++ text_of r) turn.1 ∙ sym (text_more c.args.budget c.args.header.now beginning no_bindings _ before line i.pieces t.turn.0 i.plays))
           (gained_both _ _ _ (text beginning before i.pieces) (text_of a.reply) i.put a.put);
       fit = rw t.frames fit.1;
       numbers = t.numbers ∙ i.numbers;

@@ -1,4 +1,4 @@
-use Rattle.std.proofs.Common.{◌≡◌, List, true, take, drop, length, IsTrue}
+use Rattle.std.proofs.Common.{◌≡◌, List, true, take, drop, IsTrue}
 use Rattle.world_model.specs.State.{beginning}
 use Rattle.world_model.specs.Histories.{after, Legal}
 use Rattle.world_model.specs.Engines.{no_slice}
@@ -14,10 +14,10 @@ invariant-loop-played g l =
     let history = g.E.Engine.history in
     record {
       pieces : List (List Entry);
-      plays : Plays l.budget (length l.classes) beginning no_bindings (take l.played l.lines) pieces (shown l.lanes);
+      plays : Plays l.budget l.header beginning no_bindings (take l.played l.lines) pieces (shown l.lanes);
       cut : history l.engine ≡ entries_of pieces;
       put : Gained (g.K.Sink.held l.fn.out) (g.K.Sink.held l.out) (text beginning (take l.played l.lines) pieces);
-      fit : are_fit g.S.Shape.sizes.lanes l.counts (length l.classes) (frames_of (after (history l.engine))) (drop l.played l.lines) ≡ true;
+      fit : are_fit g.S.Shape.sizes.lanes l.counts l.header (frames_of (after (history l.engine))) (drop l.played l.lines) ≡ true;
       numbers : numbers_of l.lanes ≡ l.counts;
       legal : Legal g.S.Shape.sizes (history l.engine);
       alone : IsTrue (no_slice (after (history l.engine)));

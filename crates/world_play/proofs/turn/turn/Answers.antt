@@ -1,11 +1,10 @@
-use Rattle.std.proofs.Common.{length}
 use Rattle.world_play.specs.Variables.{shown}
 use Rattle.world_play.proofs.Collecting.{each_ok, each_err}
 use Rattle.world_play.proofs.Playing.{gc_turned, gc_broken}
 use Rattle.world_play.proofs.turn.turn.Goals as goal
 
 pub returns-in-Lane : goal.returns-in-Lane
-returns-in-Lane g c = rw c.in-Lane.is (record { turned = c.lane_turn.ensures c.args.budget (length c.args.classes.now); broken = tt })
+returns-in-Lane g c = rw c.in-Lane.is (record { turned = c.lane_turn.ensures c.args.budget; broken = tt })
 
 pub returns-in-Gc : goal.returns-in-Gc
 returns-in-Gc g c = rw c.in-Gc.is (record {

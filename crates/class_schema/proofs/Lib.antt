@@ -1,0 +1,12 @@
+pub mod Places
+pub mod Ancestors
+pub mod Views
+pub mod Adding
+pub mod Labels
+pub mod Keeping
+pub mod Reading
+pub mod Pushing
+pub mod Finding
+pub mod Starting
+pub mod Laying
+pub mod Inheriting

@@ -1,0 +1,7 @@
+-- What a script tells before its lines: its classes, and the names of the fields that its lines mention.
+use Rattle.std.specs.Prelude.{ℕ, List}
+use Rattle.class_schema.specs.Class.{Schema}
+
+pub record Header : Type 0 where
+  pub classes : Schema
+  pub fields : List (List ℕ)
