@@ -84,7 +84,7 @@ refuses_begin_held h names (begin.Frames n) other k r = holds_more h _ names k r
 -- ---- the notes
 
 -- bits that are set are among the old ones or the new ones
-set_among : (bits : List Bool) (xs : List ℕ) (x : ℕ) → get_or (all_set bits xs) x false ≡ true → (get_or bits x false ≡ true) ⊎ Among xs x
+pub set_among : (bits : List Bool) (xs : List ℕ) (x : ℕ) → get_or (all_set bits xs) x false ≡ true → (get_or bits x false ≡ true) ⊎ Among xs x
 set_among bits [] x e = inl e
 set_among bits (y ∷ xs) x e = go (set_among (set bits y true) xs x e)
   where
@@ -119,8 +119,8 @@ pub record KeepRun (z : Sizes) (names : List (Option Name)) (firsts sizes links 
   pub roots : AllByRecursion (λ n. IsRootUnit (graph s.world) (unit_of s.world n)) of
 
 -- the object behind a root bit
-root_at : {z : Sizes} {names : List (Option Name)} {made : List ℕ} {kinds : ℕ → List Kind} {lives : List Life} {roots : List Bool} {rooted : Name → Bool} {cell : Name → ℕ → Option Name} {strong : ℕ → ℕ → Option Name}
-    → NamesShow z names made kinds → RootsShow z names lives roots rooted cell strong → (i : ℕ) → get_or roots i false ≡ true → (n : Name) × LivesAt names lives i n × (rooted n ≡ true)
+root_at : {z : Sizes} {names : List (Option Name)} {made : List ℕ} {kinds : ℕ → List Kind} {lives : List Life} {roots : List Bool} {rooted : Name → Bool} {strong : ℕ → ℕ → Option Name}
+    → NamesShow z names made kinds → RootsShow z names lives roots rooted strong → (i : ℕ) → get_or roots i false ≡ true → (n : Name) × LivesAt names lives i n × (rooted n ≡ true)
 root_at {names} {lives} {roots} {rooted} ns rs i e = go (name_at names i) refl
   where
     bit : rooted_at rooted (name_at names i) ≡ true
@@ -135,7 +135,7 @@ root_at {names} {lives} {roots} {rooted} ns rs i e = go (name_at names i) refl
         (n, subst (λ (k : ℕ). LivesAt names lives k n) same j.1, is)
 
 pub keep_run : (z : Sizes) (names : List (Option Name)) (firsts sizes links : List ℕ) (lives : List Life) (made : List ℕ) (roots : List Bool) (s : State) (earlier : List World) (marked : List Bool) (listed grey heads : List ℕ) (count : ℕ)
-    → AreApart s.world.kinds s.world.units → NamesShow z names made s.world.kinds → UnitsShow z names firsts sizes links lives s.world.units → RootsShow z names lives roots s.world.rooted s.world.cell s.world.strong
+    → AreApart s.world.kinds s.world.units → NamesShow z names made s.world.kinds → UnitsShow z names firsts sizes links lives s.world.units → RootsShow z names lives roots s.world.rooted s.world.strong
     → s.world.phase ≡ Marking → s.collector.started ≡ true → s.collector.agreed ≡ None → s.collector.steps ≡ 0 → s.marks.moments ≡ s.world ∷ earlier → length marked ≡ item_count z
     → MarksShow names firsts sizes links lives s.world.units marked listed grey s.marks.kept s.marks.fresh s.marks.scanned → CanKeep firsts roots count marked heads
     → KeepRun z names firsts sizes links lives (all_set marked heads) (listed ++ heads) (grey ++ heads) s (names_at names heads)
@@ -289,7 +289,13 @@ module _ (z : Sizes) (p : Parts) (h new : List Entry) (cleared marked : List Boo
     idle = λ ne. absurd (ne refl);
     marks = λ e. subst (λ (bits : List Bool). MarksShow p.names p.firsts p.sizes p.next p.lives (after h).units bits heads heads end.marks.kept end.marks.fresh end.marks.scanned) (sym keeps.bits) ran.marks;
     roots_marked = λ e i r. keeps.each i (bit_below p.roots i r) r;
-    classes = s.classes;
+    kinds = s.kinds;
+    cells = s.cells;
+    black = λ e. record {
+      each = λ i slot t live below at m g.
+          let marked_now = subst (λ (bits : List Bool). get_or bits (first_at p.firsts i) false ≡ true) keeps.bits m in
+          absurd (out (first_at p.firsts i) g (set_among cleared heads (first_at p.firsts i) marked_now));
+    };
     removed = removed_marking _ _ _ _ _ removals_none (left_idle _ _ _ _ s.removed.left_is (sym s.phase ∙ idle)) s.removed;
     gone = s.gone;
     order = s.order;
@@ -300,6 +306,10 @@ module _ (z : Sizes) (p : Parts) (h new : List Entry) (cleared marked : List Boo
     none_asked = λ ne. ran.asked;
     no_steps = ran.steps;
   }
+    where
+      out : (x : ℕ) → (Among heads x → ⊥) → (get_or cleared x false ≡ true) ⊎ Among heads x → ⊥
+      out x g (inl is) = let none = all_clear x in cc
+      out x g (inr a) = g a
 
   same_end : record end { world = s1.world; frames = s1.frames } ≡ end
   same_end = λ t. record { world = sym ran.world t; marks = end.marks; frames = sym ran.frames t; slices = end.slices; collector = end.collector }

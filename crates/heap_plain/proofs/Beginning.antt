@@ -8,23 +8,25 @@ use Rattle.std.proofs.lemmas.List.{get_or-replicate, get_or_past, length-replica
 use Rattle.std.proofs.lemmas.List.Folds.{sum_by-replicate}
 use Rattle.world_model.specs.Sizes.{Sizes, IsLawful, item_count}
 use Rattle.world_model.proofs.Queues.{queue_start}
-use Rattle.heap_plain.specs.Types.{Name, Idle}
+use Rattle.heap_plain.specs.Types.{Name, Kind, Idle}
 use Rattle.heap_plain.specs.declared.life.Life.{Life}
 use Rattle.heap_plain.specs.declared.life.Life.TheVariants.{Free, Live}
-use Rattle.heap_plain.specs.Parts.{Parts, Lists, name_at, life_at, is_gone}
+use Rattle.heap_plain.specs.Parts.{Parts, Lists, name_at, life_at, no_kind, target_at, is_gone}
 use Rattle.heap_plain.specs.Stacks.{full_stacks}
 use Rattle.heap_plain.specs.Sections.{rooted_at, gone_world, FreeShows, free_at, spare_at}
 use Rattle.heap_plain.specs.Plain.{IsPlain}
 use Rattle.heap_plain.proofs.Stacking.{length-full_stacks, get_or-full_stacks}
 
 -- the vectors of a new heap
-abbrev pub new_parts : ℕ → ℕ → Parts
-new_parts lanes quota = record {
+abbrev pub new_parts : ℕ → ℕ → ℕ → Parts
+new_parts lanes quota slots = record {
   names = replicate (lanes * quota) None;
   firsts = replicate (lanes * quota) 0;
   sizes = replicate (lanes * quota) 0;
   next = replicate (lanes * quota) 0;
-  classes = replicate (lanes * quota) (record { 0 = 0 });
+  kinds = replicate (lanes * quota) no_kind;
+  targets = replicate (lanes * quota * slots) None;
+  plains = replicate (lanes * quota * slots) 0;
   lives = replicate (lanes * quota) Free;
   roots = replicate (lanes * quota) false;
   marked = replicate (lanes * quota) false;
@@ -98,7 +100,7 @@ all_free z = record {
     place : (lane k : ℕ) → lane < z.lanes → k < spare_at (replicate z.lanes z.quota) lane → free_at z (full_stacks z.quota z.lanes) lane k ≡ lane * z.quota + (z.quota - 1 - k)
     place lane k h b = get_or-full_stacks z.quota z.lanes lane k 0 h (below lane k h b)
 
-begins : (z : Sizes) → IsLawful z → IsPlain z (new_parts z.lanes z.quota) []
+begins : (z : Sizes) → IsLawful z → IsPlain z (new_parts z.lanes z.quota z.slots) []
 begins z lawful = record {
   legal = tt;
   shows = record {
@@ -126,7 +128,6 @@ begins z lawful = record {
     roots = record {
       bits = record { len = length-replicate _ _; each = λ k d below. get_or-replicate (item_count z) k false d below ∙ sym (ap (rooted_at (λ (n : Name). false)) (same_everywhere {A = Option Name} (item_count z) k None)) };
       living = λ n e. absurd cc;
-      cells_empty = λ n slot. refl;
       no_strong = λ lane number. refl;
     };
     held = record { living = λ lane n e. absurd cc; closed = λ lane e. refl; paid = λ lane. refl };
@@ -134,7 +135,23 @@ begins z lawful = record {
     idle = λ ne. refl;
     marks = λ e. absurd cc;
     roots_marked = λ e. absurd cc;
-    classes = record { len = length-replicate _ _; each = λ i n e. absurd (no_name _ i n e) };
+    kinds = record {
+      len = length-replicate _ _;
+      each = λ i n e. absurd (no_name _ i n e);
+      fit = λ i. let none : get_or (replicate (item_count z) no_kind) i no_kind ≡ no_kind = same_everywhere {A = Kind} (item_count z) i no_kind in
+          rw none (omega arith);
+    };
+    cells = record {
+      targets_len = length-replicate _ _;
+      plains_len = length-replicate _ _;
+      in_range = λ i slot t below e. absurd (let none : target_at z.slots (replicate (item_count z * z.slots) None) i slot ≡ None = same_everywhere {A = Option ℕ} (item_count z * z.slots) (i * z.slots + slot) None in cc);
+      aims = λ i n slot there. absurd (no_name _ i n there.name);
+      no_more = λ i n slot there. absurd (no_name _ i n there.name);
+      numbers = λ i n slot there. absurd (no_name _ i n there.name);
+      unmade = λ n slot more. refl;
+      unmade_plain = λ n slot more. refl;
+    };
+    black = λ e. absurd cc;
     removed = record {
       swept_is = refl;
       swept_few = omega arith;
@@ -160,5 +177,5 @@ begins z lawful = record {
 }
 
 -- the vectors that are made by the numbers of a shape
-pub begins_as : (z : Sizes) (lanes quota : ℕ) (p : Parts) → IsLawful z → lanes ≡ z.lanes → quota ≡ z.quota → new_parts lanes quota ≡ p → IsPlain z p []
-begins_as z lanes quota p lawful by_lanes by_quota made = subst (λ (q : Parts). IsPlain z q []) made (rw (by_lanes, by_quota) (begins z lawful))
+pub begins_as : (z : Sizes) (lanes quota slots : ℕ) (p : Parts) → IsLawful z → lanes ≡ z.lanes → quota ≡ z.quota → slots ≡ z.slots → new_parts lanes quota slots ≡ p → IsPlain z p []
+begins_as z lanes quota slots p lawful by_lanes by_quota by_slots made = subst (λ (q : Parts). IsPlain z q []) made (rw (by_lanes, by_quota, by_slots) (begins z lawful))

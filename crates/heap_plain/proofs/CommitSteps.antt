@@ -11,26 +11,28 @@ use Rattle.world_model.specs.Sizes.{Sizes, item_count}
 use Rattle.world_model.specs.NameLists.{same_name, has, members}
 use Rattle.world_model.specs.World.{World, Removal, Removed as AtRemoved}
 use Rattle.world_model.specs.State.{State, Marks, is_marked, is_grey, grey_in, grey_units, white_units}
-use Rattle.world_model.specs.Reach.{graph, IsUnit, IsRootUnit, IsReached, Walk}
+use Rattle.world_model.specs.Reach.{graph, IsUnit, IsRootUnit, IsReached, Refers}
 use Rattle.world_model.specs.CollectorSteps.{CommitMay}
 use Rattle.world_model.specs.Histories.{MayBy, after, state_of}
 use Rattle.world_model.specs.Calls.{CommitsAlone}
 use Rattle.world_model.proofs.ListFacts.{Among, contains_among, filter_among, among_filter, among_filter_test}
+use Rattle.world_model.proofs.Reaches.{reached_passes}
 use Rattle.heap_plain.specs.Types.{Name, Ref, Phase, Idle, Marking, Gathering, Commit, Collector, Entry}
 use Rattle.heap_plain.specs.Types.act
 use Rattle.heap_plain.specs.Types.commit
 use Rattle.heap_plain.specs.declared.life.Life.{Life}
 use Rattle.heap_plain.specs.declared.life.Life.TheVariants.{Free, Live, Removed, Begun, Finished}
-use Rattle.heap_plain.specs.Parts.{Parts, Holds, name_at, life_at, first_at, is_gone, stage_of}
+use Rattle.heap_plain.specs.Parts.{Parts, Holds, name_at, life_at, first_at, target_at, is_gone, stage_of}
 use Rattle.heap_plain.specs.Filling.{Filled}
 use Rattle.heap_plain.specs.Notes.{MayEnd, is_done}
 use Rattle.heap_plain.specs.Sweeping.{without, Removes}
-use Rattle.heap_plain.specs.Sections.{Distinct, UnitsShow, StandsAt, LivesAt, RootsShow, rooted_at, HeldShow, RemovedShow, removal_of, removal_at, GoneShow, LiesAt, at_end, FreeShows, free_at, spare_at, grey_of}
+use Rattle.heap_plain.specs.Sections.{CellsShow, Distinct, UnitsShow, StandsAt, LivesAt, RootsShow, rooted_at, HeldShow, RemovedShow, removal_of, removal_at, GoneShow, LiesAt, at_end, FreeShows, free_at, spare_at, grey_of}
 use Rattle.heap_plain.specs.Plain.{Shows, IsPlain}
 use Rattle.heap_plain.proofs.WorldFacts.{has_among, among_left, among_right}
 use Rattle.heap_plain.proofs.Fillings.{Lists-same, from_start}
 use Rattle.heap_plain.proofs.Entries.{plain_more, holds_more}
-use Rattle.heap_plain.proofs.Standing.{name_below}
+use Rattle.heap_plain.proofs.Standing.{name_below, head_of}
+use Rattle.heap_plain.proofs.Cells.{cells_less, cell_below, aims_name}
 use Rattle.heap_plain.proofs.NewNames.{among_members, members_among, distinct_append}
 use Rattle.heap_plain.proofs.Quiet.{quiet_shows}
 use Rattle.heap_plain.proofs.BeginSteps.{none_of_none}
@@ -222,12 +224,27 @@ module _ (z : Sizes) (p : Parts) (h : List Entry) (lives : List Life) (was : IsP
       sym ((s.marks marking).bits at.0 u at.1) ∙ ap (λ (x : ℕ). get_or p.marked x false) (sym j.2) ∙ s.roots_marked marking j.0 root_bit
   marked_root u unit (r, has_r, inr (lane, number, is)) = absurd (let none = s.roots.no_strong lane number in cc)
 
+  -- no unit is grey
+  none_listed : (x : ℕ) → Among (grey_of p.work p.scanned p.pushed) x → ⊥
+  none_listed x a = subst (λ (xs : List ℕ). Among xs x) (none_of_none (grey_of p.work p.scanned p.pushed) (grey_len z p (state_of h) s ∙ black)) a
+
+  -- the target of a cell of a marked unit is marked
+  marked_target : (i slot t : ℕ) → life_at p.lives i ≡ Live → slot < z.slots → target_at z.slots p.targets i slot ≡ Some t → bit i ≡ true → bit t ≡ true
+  marked_target i slot t live below at b = (s.black marking).each i slot t live below at b (none_listed (first_at p.firsts i))
+
+  marked_next : (u v : List Name) → IsUnit (graph w) u → IsUnit (graph w) v → is_marked m u ≡ true → Refers (graph w) u v → is_marked m v ≡ true
+  marked_next u v from_unit unit is refers =
+      let at = s.units.all u (contains_among w.units u from_unit) in
+      let to_at = s.units.all v (contains_among w.units v unit) in
+      let j = at.1.inside refers.from refers.member in
+      let source : bit j.0 ≡ true = ap (λ (x : ℕ). get_or p.marked x false) j.2 ∙ (s.marks marking).bits at.0 u at.1 ∙ is in
+      let below = cell_below s.kinds s.cells j.0 refers.from refers.slot refers.to j.1 refers.cell in
+      let target = aims_name (target_at z.slots p.targets j.0 refers.slot) (w.cell refers.from refers.slot) refers.to (s.cells.aims j.0 refers.from refers.slot j.1 below) refers.cell in
+      let head : first_at p.firsts target.0 ≡ to_at.0 = head_of s.names to_at.0 v to_at.1 target.0 refers.to target.2.name refers.target in
+      sym ((s.marks marking).bits to_at.0 v to_at.1) ∙ ap (λ (x : ℕ). get_or p.marked x false) (sym head) ∙ marked_target j.0 refers.slot target.0 j.1.life below target.1 source
+
   unreached : (u : List Name) → IsUnit (graph w) u → is_marked m u ≡ false → IsReached (graph w) u → ⊥
-  unreached u unit white r = go r.rest r.walk
-    where
-      go : (rest : List (List Name)) → Walk (graph w) r.root rest u → ⊥
-      go [] same = let t : is_marked m u ≡ true = subst (λ (v : List Name). is_marked m v ≡ true) same (marked_root r.root r.unit r.is_root) in cc
-      go (v ∷ rest) walk = let refers = walk.1 in let none = s.roots.cells_empty refers.from refers.slot in let some = refers.cell in cc
+  unreached u unit white reached = let is : is_marked m u ≡ true = reached_passes (graph w) (λ v. is_marked m v ≡ true) marked_root marked_next u reached in cc
 
   -- ---- lives
 
@@ -343,16 +360,19 @@ module _ (z : Sizes) (p : Parts) (h : List Entry) (lives : List Life) (was : IsP
   same_bit None = refl
   same_bit (Some n) = same_root n
 
-  roots_kept : RootsShow z p.names lives p.roots rooted' w.cell w.strong
+  roots_kept : RootsShow z p.names lives p.roots rooted' w.strong
   roots_kept = record {
     bits = Lists-same p.roots (item_count z) (λ i. rooted_at w.rooted (name_at p.names i)) _ s.roots.bits (λ i. same_bit (name_at p.names i));
     living = λ n e.
         let is = sym (same_root n) ∙ e in
         let j = s.roots.living n is in
         (j.0, record { name = j.1.name; life = stays_live j.0 j.1.life (root_marked j.0 n j.1.name is) });
-    cells_empty = s.roots.cells_empty;
     no_strong = s.roots.no_strong;
   }
+
+  cells_kept : CellsShow z p.names lives p.kinds p.targets p.plains w.kinds w.cell w.plain
+  cells_kept = cells_less (λ i n a. record { name = a.name; life = (was_live i a.life).0 })
+      (λ i n slot t v there below at a. let l = was_live i there.life in record { name = a.name; life = stays_live t a.life (marked_target i slot t l.0 below at l.1) }) s.cells
 
   distinct_white : Distinct (members white)
   distinct_white = distinct_filter (λ u. not (is_marked m u)) w.units s.distinct
@@ -501,7 +521,9 @@ module _ (z : Sizes) (p : Parts) (h : List Entry) (lives : List Life) (was : IsP
     idle = λ ne. omega (arith, black, s.work.order);
     marks = λ e. absurd cc;
     roots_marked = λ e. absurd cc;
-    classes = s.classes;
+    kinds = s.kinds;
+    cells = cells_kept;
+    black = λ e. absurd cc;
     removed = removed_kept;
     gone = gone_kept;
     order = record { len = s.order.len; listed_few = omega arith; begun_few = omega arith; from_few = omega arith; kept_few = omega arith; early = λ e. refl };

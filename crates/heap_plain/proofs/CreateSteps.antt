@@ -1,5 +1,5 @@
 -- Making a unit.
-use Rattle.std.proofs.Common.{◌≡◌, ◌≢◌, ℕ, ◌+◌, ◌-◌, ◌*◌, ◌<◌, ◌≤◌, ◌==◌, ◌||◌, ◌&&◌, not, refl, sym, subst, ap, ◌∙◌, inl, inr, arith, Bool, true, false, List, [], ◌∷◌, ◌++◌, length, length-append, get_or, ◌⊎◌, count_by, append-nil, Option, Some, None}
+use Rattle.std.proofs.Common.{◌≡◌, ◌≢◌, ℕ, ◌+◌, ◌-◌, ◌*◌, ◌<◌, ◌≤◌, ◌==◌, ◌||◌, ◌&&◌, not, refl, sym, subst, ap, ◌∙◌, inl, inr, arith, Bool, true, false, List, [], ◌∷◌, ◌++◌, length, length-append, get_or, ◌⊎◌, count_by, append-nil, slice_get, Option, Some, None}
 use Rattle.std.specs.List.{list_any, list_all, flat_map}
 use Rattle.std.proofs.Math.ListN.{set}
 use Rattle.std.proofs.Math.Logic.{dite}
@@ -18,28 +18,29 @@ use Rattle.world_model.specs.Histories.{after, state_of, MayBy}
 use Rattle.world_model.proofs.ListFacts.{Among, among_append, and_true, or_true, or_right}
 use Rattle.world_model.proofs.NameFacts.{names_from_range, set_at_same}
 use Rattle.world_model.proofs.Units.{AreApart, next_apart, units_apart}
-use Rattle.heap_plain.specs.Types.{Name, Ref, ClassId, Kind, Lane, Phase, Entry}
+use Rattle.heap_plain.specs.Types.{Name, Ref, Kind, Lane, Phase, Entry}
 use Rattle.heap_plain.specs.Types.act
 use Rattle.heap_plain.specs.declared.life.Life.{Life}
 use Rattle.heap_plain.specs.declared.life.Life.TheVariants.{Free, Live}
-use Rattle.heap_plain.specs.Parts.{Parts, name_at, life_at, first_at, next_at, class_at, kind_class, is_gone, stage_of, Holds}
+use Rattle.heap_plain.specs.Parts.{Parts, name_at, life_at, first_at, next_at, kind_at, target_at, plain_at, is_gone, stage_of, Holds}
 use Rattle.heap_plain.specs.Sweeping.{removed_name}
-use Rattle.heap_plain.specs.Filling.{FilledAt}
+use Rattle.heap_plain.specs.Filling.{FilledAt, RowsFilled}
 use Rattle.heap_plain.specs.Stacks.{popped}
-use Rattle.heap_plain.specs.Sections.{Distinct, NamesShow, IsOfLane, IsPlace, UnitsShow, StandsAt, LivesAt, AreLinked, RootsShow, rooted_at, HeldShow, WorkShows, MarksShow, RootsMarked, RemovedShow, GoneShow, LiesAt, ClassesShow, FreeShows, spare_at, pushed_of, grey_of}
+use Rattle.heap_plain.specs.Sections.{Distinct, NamesShow, IsOfLane, IsPlace, UnitsShow, StandsAt, LivesAt, AreLinked, RootsShow, rooted_at, HeldShow, WorkShows, MarksShow, RootsMarked, RemovedShow, GoneShow, LiesAt, KindsShow, CellsShow, Aims, TargetsMarked, FreeShows, spare_at, pushed_of, grey_of}
 use Rattle.heap_plain.specs.Plain.{Shows, IsPlain}
 use Rattle.heap_plain.proofs.WorldFacts.{at_set, set_at_other, has_among, among_has, among_left, among_right, test_among, among_test, any_same, unit_of_is, state_more}
 use Rattle.heap_plain.proofs.Fillings.{Lists-set, Lists-same}
 use Rattle.heap_plain.proofs.Entries.{plain_more}
 use Rattle.heap_plain.proofs.Queueing.{queue_more, gather_more}
-use Rattle.heap_plain.proofs.Classing.{kind_class_left, kind_class_right}
+use Rattle.heap_plain.proofs.Kinding.{slice_left, slice_right, lawful_fits}
+use Rattle.heap_plain.proofs.Cells.{aims_map, aims_target}
 use Rattle.heap_plain.proofs.Finding.{removed_same_names}
 use Rattle.heap_plain.proofs.Standing.{one_head, live_used, bit_below, links_same}
 use Rattle.heap_plain.proofs.Popping.{lane_below, Where, where_is, popped_lane, popped_free, free_popped}
 use Rattle.heap_plain.proofs.NewNames.{length-names_from, has_in_row, row_place, distinct_row, count_row, among_members, distinct_append, given_members, members_given}
 
 -- a creation, and what its writes leave of the vectors
-pub record Creation (z : Sizes) (p : Parts) (h : List Entry) (l m : ℕ) (more : List Kind) (ns : List (Option Name)) (fs nx : List ℕ) (cs : List ClassId) (ls : List Life) : Type 0 where
+pub record Creation (z : Sizes) (p : Parts) (h : List Entry) (l m : ℕ) (more : List Kind) (ns : List (Option Name)) (fs nx : List ℕ) (ks : List Kind) (ts : List (Option ℕ)) (ps : List ℕ) (ls : List Life) : Type 0 where
   pub was : IsPlain z p h
   pub lane : l < z.lanes
   pub opened : is_open (after h) (Lane l) ≡ true
@@ -52,10 +53,12 @@ pub record Creation (z : Sizes) (p : Parts) (h : List Entry) (l m : ℕ) (more :
   pub by_name : FilledAt p.names ns (popped p.free (l * z.quota + spare_at p.spare l)) (length more) (λ k. Some (record { lane = l; count = m + 1 + k }))
   pub by_first : FilledAt p.firsts fs (popped p.free (l * z.quota + spare_at p.spare l)) (length more) (λ k. popped p.free (l * z.quota + spare_at p.spare l) 0)
   pub by_life : FilledAt p.lives ls (popped p.free (l * z.quota + spare_at p.spare l)) (length more) (λ k. Live)
-  pub by_class : FilledAt p.classes cs (popped p.free (l * z.quota + spare_at p.spare l)) (length more) (kind_class more)
+  pub by_kind : FilledAt p.kinds ks (popped p.free (l * z.quota + spare_at p.spare l)) (length more) (kind_at more)
+  pub by_target : RowsFilled p.targets ts (popped p.free (l * z.quota + spare_at p.spare l)) (length more) z.slots None
+  pub by_plain : RowsFilled p.plains ps (popped p.free (l * z.quota + spare_at p.spare l)) (length more) z.slots 0
   pub by_next : FilledAt p.next nx (popped p.free (l * z.quota + spare_at p.spare l)) (length more - 1) (λ k. popped p.free (l * z.quota + spare_at p.spare l) (k + 1))
 
-module _ {z : Sizes} {p : Parts} {h : List Entry} {l m : ℕ} {more : List Kind} {ns : List (Option Name)} {fs nx : List ℕ} {cs : List ClassId} {ls : List Life} (new : Creation z p h l m more ns fs nx cs ls) where
+module _ {z : Sizes} {p : Parts} {h : List Entry} {l m : ℕ} {more : List Kind} {ns : List (Option Name)} {fs nx : List ℕ} {ks : List Kind} {ts : List (Option ℕ)} {ps : List ℕ} {ls : List Life} (new : Creation z p h l m more ns fs nx ks ts ps ls) where
   abbrev s : Shows z p (state_of h)
   s = new.was.shows
 
@@ -311,11 +314,10 @@ module _ {z : Sizes} {p : Parts} {h : List Entry} {l m : ℕ} {more : List Kind}
   same_root i (inl w) = ap (rooted_at (after h).rooted) (name_in w.0 i w.1 w.2) ∙ not_rooted w.0 w.1 ∙ sym (ap (rooted_at (after h).rooted) (ap (name_at p.names) w.2 ∙ no_name w.0 w.1))
   same_root i (inr o) = ap (rooted_at (after h).rooted) (name_out i o)
 
-  roots_new : RootsShow z ns ls p.roots (after h).rooted (after h).cell (after h).strong
+  roots_new : RootsShow z ns ls p.roots (after h).rooted (after h).strong
   roots_new = record {
     bits = Lists-same p.roots (item_count z) (λ i. rooted_at (after h).rooted (name_at p.names i)) _ s.roots.bits (λ i. same_root i (where_is at (length more) i));
     living = λ n e. let j = s.roots.living n e in (j.0, same_life j.0 n j.1);
-    cells_empty = s.roots.cells_empty;
     no_strong = s.roots.no_strong;
   }
 
@@ -513,33 +515,101 @@ module _ {z : Sizes} {p : Parts} {h : List Entry} {l m : ℕ} {more : List Kind}
     all = λ u n a e still. let r = s.gone.all u n a e still in (r.0, lies_old r.0 u r.1);
   }
 
-  -- ---- classes
+  -- ---- kinds and cells
 
-  classes_new : ClassesShow z ns cs new_kinds
-  classes_new = record { len = new.by_class.len ∙ s.classes.len; each = λ i n e. each i n e (where_is at (length more) i) }
+  kinds_new : KindsShow z ns ks new_kinds
+  kinds_new = record { len = new.by_kind.len ∙ s.kinds.len; each = λ i n e. each i n e (where_is at (length more) i); fit = λ i. fit i (where_is at (length more) i) }
     where
-      each : (i : ℕ) (n : Name) → name_at ns i ≡ Some n → Where at (length more) i → class_at cs i ≡ kind_class (new_kinds n.lane) (n.count - 1)
+      each : (i : ℕ) (n : Name) → name_at ns i ≡ Some n → Where at (length more) i → slice_get (new_kinds n.lane) (n.count - 1) ≡ Some (kind_at ks i)
       each i n e (inl w) =
           let own : new_kinds l ≡ (after h).kinds l ++ more = set_at_same (after h).kinds l ((after h).kinds l ++ more) in
           let place : m + 1 + w.0 - 1 ≡ length ((after h).kinds l) + w.0 = omega (arith, new.is) in
-          let class : class_at cs i ≡ kind_class more w.0 = ap (class_at cs) w.2 ∙ new.by_class.inside w.0 _ w.1 in
-          subst (λ (x : Name). class_at cs i ≡ kind_class (new_kinds x.lane) (x.count - 1)) (sym (name_is w.0 i n w.1 w.2 e))
-          (class ∙ sym (kind_class_right ((after h).kinds l) more w.0 w.1) ∙ sym (λ t. kind_class (own t) (place t)))
+          let kind : kind_at ks i ≡ kind_at more w.0 = ap (kind_at ks) w.2 ∙ new.by_kind.inside w.0 _ w.1 in
+          subst (λ (x : Name). slice_get (new_kinds x.lane) (x.count - 1) ≡ Some (kind_at ks i)) (sym (name_is w.0 i n w.1 w.2 e))
+          ((λ t. slice_get (own t) (place t)) ∙ slice_right ((after h).kinds l) more w.0 w.1 ∙ ap (λ (k : Kind). Some k) (sym kind))
       each i n e (inr o) =
           let there = sym (name_out i o) ∙ e in
           let place = s.names.places i n there in
-          new.by_class.outside i _ o ∙ s.classes.each i n there
-          ∙ at_set (λ (kinds : List Kind). kind_class ((after h).kinds n.lane) (n.count - 1) ≡ kind_class kinds (n.count - 1)) (after h).kinds l n.lane ((after h).kinds l ++ more)
-          (λ same. ap (λ (x : ℕ). kind_class ((after h).kinds x) (n.count - 1)) same
-          ∙ sym (kind_class_left ((after h).kinds l) more (n.count - 1) (below same place.few place.some)))
-          (λ ne. refl)
+          sym (at_set (λ (kinds : List Kind). slice_get ((after h).kinds n.lane) (n.count - 1) ≡ slice_get kinds (n.count - 1)) (after h).kinds l n.lane ((after h).kinds l ++ more)
+          (λ same. ap (λ (x : ℕ). slice_get ((after h).kinds x) (n.count - 1)) same
+          ∙ sym (slice_left ((after h).kinds l) more (n.count - 1) (below same place.few place.some)))
+          (λ ne. refl))
+          ∙ s.kinds.each i n there ∙ ap (λ (k : Kind). Some k) (sym (new.by_kind.outside i _ o))
         where
           below : n.lane ≡ l → n.count ≤ length ((after h).kinds n.lane) → 1 ≤ n.count → n.count - 1 < length ((after h).kinds l)
           below same few some = let t : length ((after h).kinds n.lane) ≡ length ((after h).kinds l) = ap (λ (x : ℕ). length ((after h).kinds x)) same in omega arith
 
+      fit : (i : ℕ) → Where at (length more) i → (kind_at ks i).refs + (kind_at ks i).plain ≤ z.slots
+      fit i (inl w) =
+          let kind : kind_at ks i ≡ kind_at more w.0 = ap (kind_at ks) w.2 ∙ new.by_kind.inside w.0 _ w.1 in
+          subst (λ (k : Kind). k.refs + k.plain ≤ z.slots) (sym kind) (lawful_fits z more new.lawful w.0 w.1)
+      fit i (inr o) = subst (λ (k : Kind). k.refs + k.plain ≤ z.slots) (sym (new.by_kind.outside i _ o)) (s.kinds.fit i)
+
+  -- no cell of a new object was written
+  no_cell : (k i : ℕ) (n : Name) (slot : ℕ) → k < length more → i ≡ at k → name_at ns i ≡ Some n → ((after h).cell n slot ≡ None) × ((after h).plain n slot ≡ 0)
+  no_cell k i n slot below here e =
+      let name = name_is k i n below here e in
+      let more_made : length ((after h).kinds n.lane) < n.count = subst (λ (x : Name). length ((after h).kinds x.lane) < x.count) (sym name) (omega (arith, new.is)) in
+      (s.cells.unmade n slot more_made, s.cells.unmade_plain n slot more_made)
+
+  target_in : (k i slot : ℕ) → k < length more → i ≡ at k → slot < z.slots → target_at z.slots ts i slot ≡ None
+  target_in k i slot below here low = ap (λ (x : ℕ). target_at z.slots ts x slot) here ∙ new.by_target.inside k slot None below low
+
+  target_out : (i slot : ℕ) → out_of i → slot < z.slots → target_at z.slots ts i slot ≡ target_at z.slots p.targets i slot
+  target_out i slot o low = new.by_target.outside i slot None low o
+
+  cells_new : CellsShow z ns ls ks ts ps new_kinds (after h).cell (after h).plain
+  cells_new = record {
+    targets_len = new.by_target.len ∙ s.cells.targets_len;
+    plains_len = new.by_plain.len ∙ s.cells.plains_len;
+    in_range = λ i slot t low e. range i slot t low e (where_is at (length more) i);
+    aims = λ i n slot there low. aims i n slot there low (where_is at (length more) i);
+    no_more = λ i n slot there over. no_more i n slot there over (where_is at (length more) i);
+    numbers = λ i n slot there low. numbers i n slot there low (where_is at (length more) i);
+    unmade = λ n slot over. s.cells.unmade n slot (omega (arith, grown n.lane));
+    unmade_plain = λ n slot over. s.cells.unmade_plain n slot (omega (arith, grown n.lane));
+  }
+    where
+      range : (i slot t : ℕ) → slot < z.slots → target_at z.slots ts i slot ≡ Some t → Where at (length more) i → t < item_count z
+      range i slot t low e (inl w) = absurd (let none = target_in w.0 i slot w.1 w.2 low in cc)
+      range i slot t low e (inr o) = s.cells.in_range i slot t low (sym (target_out i slot o low) ∙ e)
+
+      aims : (i : ℕ) (n : Name) (slot : ℕ) → LivesAt ns ls i n → slot < z.slots → Where at (length more) i → Aims ns ls (target_at z.slots ts i slot) ((after h).cell n slot)
+      aims i n slot there low (inl w) =
+          subst (λ (o : Option ℕ). Aims ns ls o ((after h).cell n slot)) (sym (target_in w.0 i slot w.1 w.2 low))
+          (subst (λ (c : Option Name). Aims ns ls None c) (sym (no_cell w.0 i n slot w.1 w.2 there.name).0) tt)
+      aims i n slot there low (inr o) =
+          subst (λ (t : Option ℕ). Aims ns ls t ((after h).cell n slot)) (sym (target_out i slot o low))
+          (aims_map (target_at z.slots p.targets i slot) ((after h).cell n slot) (λ t v e a. same_life t v a) (s.cells.aims i n slot (old_life i n o there) low))
+
+      no_more : (i : ℕ) (n : Name) (slot : ℕ) → LivesAt ns ls i n → (kind_at ks i).refs ≤ slot → Where at (length more) i → (after h).cell n slot ≡ None
+      no_more i n slot there over (inl w) = (no_cell w.0 i n slot w.1 w.2 there.name).0
+      no_more i n slot there over (inr o) = s.cells.no_more i n slot (old_life i n o there) (subst (λ (k : Kind). k.refs ≤ slot) (new.by_kind.outside i _ o) over)
+
+      numbers : (i : ℕ) (n : Name) (slot : ℕ) → LivesAt ns ls i n → slot < z.slots → Where at (length more) i → plain_at z.slots ps i slot ≡ (after h).plain n slot
+      numbers i n slot there low (inl w) = ap (λ (x : ℕ). plain_at z.slots ps x slot) w.2 ∙ new.by_plain.inside w.0 slot 0 w.1 low ∙ sym (no_cell w.0 i n slot w.1 w.2 there.name).1
+      numbers i n slot there low (inr o) = new.by_plain.outside i slot 0 low o ∙ s.cells.numbers i n slot (old_life i n o there) low
+
+  black_new : (grey : List ℕ) → TargetsMarked z.slots p.firsts p.targets p.lives p.marked grey → TargetsMarked z.slots fs ts ls marked' grey
+  black_new grey k = record { each = λ i slot t live low e b g. each i slot t live low e b g (where_is at (length more) i) }
+    where
+      each : (i slot t : ℕ) → life_at ls i ≡ Live → slot < z.slots → target_at z.slots ts i slot ≡ Some t → get_or marked' (first_at fs i) false ≡ true → (Among grey (first_at fs i) → ⊥) → Where at (length more) i → get_or marked' (first_at fs t) false ≡ true
+      each i slot t live low e b g (inl w) = absurd (let none = target_in w.0 i slot w.1 w.2 low in cc)
+      each i slot t live low e b g (inr o) =
+          let was : life_at p.lives i ≡ Live = sym (life_out i o) ∙ live in
+          let named = s.units.named i (live_used p.lives i was) in
+          let head : first_at fs i ≡ first_at p.firsts i = first_out i o in
+          let unit = s.units.each i was in
+          let other : first_at p.firsts i ≢ first = not_first (first_at p.firsts i) (live_out (first_at p.firsts i) unit.1.life) in
+          let aim = sym (target_out i slot o low) ∙ e in
+          let there = aims_target (target_at z.slots p.targets i slot) ((after h).cell named.0 slot) t (s.cells.aims i named.0 slot (record { name = named.1; life = was }) low) aim in
+          let before : get_or p.marked (first_at p.firsts i) false ≡ true = sym (get_or-set_other p.marked first (first_at p.firsts i) true false other) ∙ ap (λ (x : ℕ). get_or marked' x false) (sym head) ∙ b in
+          ap (λ (x : ℕ). get_or marked' x false) (first_out t (named_out t there.0 there.2.name))
+          ∙ still_marked (first_at p.firsts t) (k.each i slot t was low aim before (λ a. g (subst (λ (x : ℕ). Among grey x) (sym head) a)))
+
   -- ---- all of it
 
-  pub creates : IsPlain z (record p { names = ns; firsts = fs; sizes = sizes'; next = nx; classes = cs; lives = ls; marked = marked'; spare = set p.spare l (spare_at p.spare l - length more); made = set p.made l (m + length more) }) (h ++ record { pass = Lane l; act = act.Make more (m + 1) } ∷ [])
+  pub creates : IsPlain z (record p { names = ns; firsts = fs; sizes = sizes'; next = nx; kinds = ks; targets = ts; plains = ps; lives = ls; marked = marked'; spare = set p.spare l (spare_at p.spare l - length more); made = set p.made l (m + length more) }) (h ++ record { pass = Lane l; act = act.Make more (m + 1) } ∷ [])
   creates = plain_more z p _ h (record { pass = Lane l; act = act.Make more (m + 1) } ∷ []) new.was (may_make, tt) record {
     phase = s.phase;
     frames = s.frames;
@@ -552,7 +622,9 @@ module _ {z : Sizes} {p : Parts} {h : List Entry} {l m : ℕ} {more : List Kind}
     idle = s.idle;
     marks = λ e. marks_new _ _ _ (s.marks e);
     roots_marked = λ e. roots_marked_new (s.roots_marked e);
-    classes = classes_new;
+    kinds = kinds_new;
+    cells = cells_new;
+    black = λ e. black_new _ (s.black e);
     removed = removed_new _ _ _ _ s.removed;
     gone = gone_new;
     order = s.order;

@@ -1,11 +1,12 @@
 -- Places of a list that are written, one after the other.
-use Rattle.std.proofs.Common.{◌≡◌, ◌≢◌, ℕ, ◌+◌, ◌<◌, ◌≤◌, ◌⊎◌, inl, inr, ◌-◌, zero, suc, List, [], ◌∷◌, length, get_or, drop, refl, sym, ap, ◌∙◌, subst, arith}
+use Rattle.std.proofs.Common.{◌≡◌, ◌≢◌, ℕ, ◌+◌, ◌<◌, ◌≤◌, ◌⊎◌, inl, inr, ◌-◌, ◌*◌, zero, suc, suc-mul, List, [], ◌∷◌, length, get_or, drop, refl, sym, ap, ◌∙◌, subst, arith}
 use Rattle.std.proofs.Math.ListN.{set}
 use Rattle.std.proofs.Math.Seq.{drop-nil}
 use Rattle.std.proofs.Math.Logic.{dite}
-use Rattle.std.proofs.Math.Decide.{ℕ_discrete}
+use Rattle.std.proofs.Math.Decide.{ℕ_discrete, dec_le}
+use Rattle.std.proofs.Math.Nat.{lt_of_not-le, mul-le-mul_right}
 use Rattle.std.proofs.lemmas.List.{length-set, get_or-set_same, get_or-set_other}
-use Rattle.heap_plain.specs.Filling.{Filled, FilledAt}
+use Rattle.heap_plain.specs.Filling.{Filled, FilledAt, RowsFilled}
 use Rattle.heap_plain.specs.Parts.{Lists}
 
 -- nothing is written yet
@@ -46,6 +47,46 @@ FilledAt-more old new at k here f v was is below once same = record {
       (λ (ne : j ≢ k). let low : j < k = omega arith in get_or-set_other new here (at j) v d (λ e. once j low (e ∙ is)) ∙ was.inside j d low);
   outside = λ i d h. get_or-set_other new here i v d (λ e. h k (omega arith) (sym is ∙ sym e)) ∙ was.outside i d (λ j low. h j (omega arith));
 }
+
+-- ---- rows
+
+-- a place of one row is before another row, or behind it
+pub rows_apart : (slots i r slot : ℕ) → i ≢ r → slot < slots → (i * slots + slot < r * slots) ⊎ (r * slots + slots ≤ i * slots + slot)
+rows_apart slots i r slot ne below = dite (dec_le r i)
+    (λ (le : r ≤ i). inr (let more : suc r ≤ i = omega arith in omega (arith, mul-le-mul_right slots more, suc-mul r slots)))
+    (λ (le : ¬ (r ≤ i)). inl (let less = lt_of_not-le le in let more : suc i ≤ r = omega arith in omega (arith, mul-le-mul_right slots more, suc-mul i slots)))
+
+-- a place has one row
+pub same_row : (slots i r s slot : ℕ) → s < slots → slot < slots → i * slots + s ≡ r * slots + slot → i ≡ r
+same_row slots i r s slot low high e = dite (ℕ_discrete i r) (λ (same : i ≡ r). same) (λ (ne : i ≢ r). absurd (go (rows_apart slots i r s ne low)))
+  where
+    go : (i * slots + s < r * slots) ⊎ (r * slots + slots ≤ i * slots + s) → ⊥
+    go (inl h) = omega arith
+    go (inr h) = omega arith
+
+-- a row ends within the rows
+pub row_end : (slots i n : ℕ) → i < n → i * slots + slots ≤ n * slots
+row_end slots i n h = let more : suc i ≤ n = omega arith in omega (arith, mul-le-mul_right slots more, suc-mul i slots)
+
+-- the places of the first rows
+pub row_below : (slots i n slot : ℕ) → i < n → slot < slots → i * slots + slot < n * slots
+row_below slots i n slot h below = let more : suc i ≤ n = omega arith in omega (arith, mul-le-mul_right slots more, suc-mul i slots)
+
+pub RowsFilled-none : {A : Type 0} (xs : List A) (at : ℕ → ℕ) (slots : ℕ) (v : A) → RowsFilled xs xs at 0 slots v
+RowsFilled-none xs at slots v = record { len = refl; inside = λ k slot d below. absurd (omega arith); outside = λ i slot d below h. refl }
+
+-- one more row is filled
+pub RowsFilled-more : {A : Type 0} (old mid new : List A) (at : ℕ → ℕ) (k here slots : ℕ) (v : A) → RowsFilled old mid at k slots v → here ≡ at k → Filled mid new (here * slots) slots (λ j. v) → RowsFilled old new at (k + 1) slots v
+RowsFilled-more {A} old mid new at k here slots v was is row = record {
+  len = row.len ∙ was.len;
+  inside = λ j slot d less below. dite (ℕ_discrete (at j) here)
+      (λ (e : at j ≡ here). ap (λ (r : ℕ). get_or new (r * slots + slot) d) e ∙ row.inside slot d below)
+      (λ (ne : at j ≢ here). row.outside (at j * slots + slot) d (rows_apart slots (at j) here slot ne below) ∙ was.inside j slot d (before j less ne) below);
+  outside = λ i slot d below h. row.outside (i * slots + slot) d (rows_apart slots i here slot (λ e. h k (omega arith) (sym is ∙ sym e)) below) ∙ was.outside i slot d below (λ j low. h j (omega arith));
+}
+  where
+    before : (j : ℕ) → j < k + 1 → at j ≢ here → j < k
+    before j less ne = dite (ℕ_discrete j k) (λ (e : j ≡ k). absurd (ne (ap at e ∙ sym is))) (λ (no : j ≢ k). omega arith)
 
 -- a write at i, where the function changes at i alone
 pub Lists-set : {A : Type 0} (xs : List A) (n i : ℕ) (v : A) (f g : ℕ → A) → Lists xs n f → i < n → g i ≡ v → ((k : ℕ) → k ≢ i → g k ≡ f k) → Lists (set xs i v) n g

@@ -4,11 +4,12 @@ pub mod WorldFacts
 pub mod Entries
 pub mod Queueing
 pub mod Listings
-pub mod Classing
 pub mod Finding
 pub mod FrameSteps
 pub mod Beginning
 pub mod Standing
+pub mod Cells
+pub mod Kinding
 pub mod Popping
 pub mod NewNames
 pub mod CreateSteps
@@ -16,9 +17,13 @@ pub mod Refusals
 pub mod MarkSteps
 pub mod RootSteps
 pub mod Noting
+pub mod Shadings
 pub mod Quiet
 pub mod BeginSteps
 pub mod SliceSteps
+pub mod UnitSteps
+pub mod MarkSlices
+pub mod StoreSteps
 pub mod CommitSteps
 pub mod Gathering
 pub mod SweepSteps

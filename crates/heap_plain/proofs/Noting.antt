@@ -5,13 +5,12 @@ use Rattle.std.proofs.Math.ListN.{set}
 use Rattle.std.proofs.Math.Logic.{dite}
 use Rattle.std.proofs.Math.Decide.{ℕ_discrete}
 use Rattle.std.proofs.lemmas.List.{length-set, get_or-set_same, get_or-set_other, take_more_set, take_more, map-append}
-use Rattle.std.proofs.lemmas.List.Sums.{sum_by-append}
 use Rattle.world_model.specs.Calls.{by}
 use Rattle.world_model.proofs.ListFacts.{and_true}
 use Rattle.heap_plain.specs.Types.{Name, Act, Pass, Collector, Marker, Entry}
 use Rattle.heap_plain.specs.Types.act
 use Rattle.heap_plain.specs.Parts.{name_at, first_at}
-use Rattle.heap_plain.specs.Notes.{names_at, all_set, KeepsOne, CanKeep, Keeps, size_of}
+use Rattle.heap_plain.specs.Notes.{names_at, all_set, KeepsOne, CanKeep, Keeps}
 
 -- ---- lists of notes
 
@@ -115,26 +114,3 @@ keeps_more names firsts roots marked now marked' start work work' i pushed pushe
         each j h r = dite (ℕ_discrete j i)
             (λ (eq : j ≡ i). ap (λ (x : ℕ). get_or now (first_at firsts x) false) eq ∙ ap (λ (x : ℕ). get_or now x false) (sym head_is) ∙ already on (get_or now head false) e (on_is ∙ ap (λ (x : ℕ). get_or roots x false) (sym eq) ∙ r))
             (λ (ne : j ≢ i). k.each j (omega arith) r)
-
--- ---- scanning
-
--- one more unit is scanned
-pub scan_entries : (names : List (Option Name)) (grey : List ℕ) (marker count head : ℕ) (n : Name) (old diary : List Entry) → count < length grey → head ≡ get_or grey count 0 → name_at names head ≡ Some n
-    → diary ≡ old ++ by (Marker marker) (map act.Scanned (names_at names (take count grey)))
-    → diary ++ record { pass = Marker marker; act = act.Scanned n } ∷ [] ≡ old ++ by (Marker marker) (map act.Scanned (names_at names (take (count + 1) grey)))
-scan_entries names grey marker count head n old diary inside is at before =
-    ap (λ (es : List Entry). es ++ record { pass = Marker marker; act = act.Scanned n } ∷ []) before
-    ∙ append_assoc old (by (Marker marker) (map act.Scanned (names_at names (take count grey)))) (record { pass = Marker marker; act = act.Scanned n } ∷ [])
-    ∙ ap (λ (es : List Entry). old ++ es)
-    (ap (λ (ns : List Name). by (Marker marker) (map act.Scanned (names_at names (take count grey))) ++ by (Marker marker) (map act.Scanned ns)) (sym (one_name names head n at))
-    ∙ sym (notes_more (Marker marker) act.Scanned names (take count grey) head)
-    ∙ ap (λ (xs : List ℕ). by (Marker marker) (map act.Scanned (names_at names xs))) (ap (λ (x : ℕ). take count grey ++ x ∷ []) is ∙ sym (take_more grey count 0 inside)))
-
-pub size_more : (sizes grey : List ℕ) (count : ℕ) → count < length grey → size_of sizes (take (count + 1) grey) ≡ size_of sizes (take count grey) + get_or sizes (get_or grey count 0) 0
-size_more sizes grey count inside =
-    ap (λ (xs : List ℕ). size_of sizes xs) (take_more grey count 0 inside)
-    ∙ sum_by-append (λ x. get_or sizes x 0) (take count grey) (get_or grey count 0 ∷ [])
-    ∙ ap (λ (k : ℕ). size_of sizes (take count grey) + k) none
-  where
-    none : 0 + get_or sizes (get_or grey count 0) 0 ≡ get_or sizes (get_or grey count 0) 0
-    none = omega arith

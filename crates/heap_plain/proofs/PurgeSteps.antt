@@ -29,6 +29,7 @@ use Rattle.heap_plain.specs.Sections.{Distinct, AreLinked, RemovedShow, removal_
 use Rattle.heap_plain.specs.Plain.{Shows, calm}
 use Rattle.heap_plain.proofs.WorldFacts.{differs, has_among, among_has}
 use Rattle.heap_plain.proofs.NewNames.{among_members}
+use Rattle.heap_plain.proofs.Cells.{cells_less}
 use Rattle.heap_plain.proofs.Queueing.{named_append, named_first, named_none, all_begun}
 use Rattle.heap_plain.proofs.SliceSteps.{count_cons}
 use Rattle.heap_plain.proofs.SweepSteps.{distinct_different, name_among}
@@ -59,7 +60,9 @@ purged_shows k idle same removed gone counts order queue agreed steps = record {
   idle = k.idle;
   marks = λ e. absurd (let a = idle in cc);
   roots_marked = λ e. absurd (let a = idle in cc);
-  classes = k.classes;
+  kinds = k.kinds;
+  cells = cells_less (λ i n a. record { name = a.name; life = same.was_live i a.life }) (λ i n slot t m there below e a. record { name = a.name; life = same.live t a.life }) k.cells;
+  black = λ e. absurd (let a = idle in cc);
   removed = removed;
   gone = gone;
   order = order;

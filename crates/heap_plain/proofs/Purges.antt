@@ -1,5 +1,6 @@
 -- A purge, step by step.
-use Rattle.std.proofs.Common.{unwrap_or, IsSome, is_some, subst₂, ◌≡◌, ◌≢◌, ℕ, ◌+◌, ◌-◌, ◌<◌, ◌≤◌, ◌^◌, ◌&&◌, refl, sym, subst, ap, ◌∙◌, arith, Bool, cond, true, false, List, [], ◌∷◌, ◌++◌, append_assoc, append-nil, length, filter_map, get_or, count_by, Option, Some, None}
+use Rattle.std.proofs.Common.{unwrap_or, IsSome, is_some, subst₂, ◌≡◌, ◌≢◌, ℕ, ◌+◌, ◌-◌, ◌<◌, ◌≤◌, ◌^◌, ◌&&◌, refl, sym, subst, ap, ◌∙◌, arith, Bool, cond, true, false, List, [], ◌∷◌, ◌++◌, append_assoc, append-nil, length, filter_map, get_or, count_by, slice_get, Option, Some, None}
+use Rattle.std.specs.Option.{option_map_or}
 use Rattle.std.specs.List.{list_all, AllByRecursion}
 use Rattle.std.proofs.Math.ListN.{set}
 use Rattle.std.proofs.Math.Seq.{drop-append_seam}
@@ -18,7 +19,7 @@ use Rattle.heap_plain.specs.Types.{Name, Ref, ClassId, Kind, HookCall, Phase, Id
 use Rattle.heap_plain.specs.Types.act
 use Rattle.heap_plain.specs.Types.called
 use Rattle.heap_plain.specs.Types.purge
-use Rattle.heap_plain.specs.Parts.{Parts, Shown, Holds, name_at, name_of, class_at, kind_class, first_at}
+use Rattle.heap_plain.specs.Parts.{Parts, Shown, Holds, name_at, name_of, class_at, first_at}
 use Rattle.heap_plain.specs.declared.life.Life.TheVariants.{Begun, Finished}
 use Rattle.heap_plain.specs.Listing.{chained}
 use Rattle.heap_plain.specs.Purging.{Tells, turned, next_poll, finished_unit, asked_acts, asked_calls, Stocks, give_all, CanGive}
@@ -124,8 +125,9 @@ module _ {z : Sizes} {old : Shown} {before mid : Option (List HookCall)} {was te
   idle = purge_idle i more
 
   -- the class that a hook is told
-  class_known : (x : ℕ) (n : Name) → name_at p.names x ≡ Some n → class_at p.classes x ≡ class_of (after old.history) n
-  class_known x n e = k.classes.each x n e ∙ ap (λ (kinds : ℕ → List Kind). kind_class (kinds n.lane) (n.count - 1)) i.kinds
+  class_known : (x : ℕ) (n : Name) → name_at p.names x ≡ Some n → class_at p.kinds x ≡ class_of (after old.history) n
+  class_known x n e =
+      sym (ap (λ (kind : Option Kind). option_map_or (λ k. k.class) kind (record { 0 = 0 })) (k.kinds.each x n e)) ∙ ap (λ (kinds : ℕ → List Kind). option_map_or (λ k. k.class) (slice_get (kinds n.lane) (n.count - 1)) (record { 0 = 0 })) i.kinds
 
   name_known : (x : ℕ) (n : Name) → name_at p.names x ≡ Some n → name_of p.names x ≡ n
   name_known x n e = ap (λ (o : Option Name). unwrap_or o (record { lane = 0; count = 0 })) e
@@ -151,7 +153,7 @@ module _ {z : Sizes} {old : Shown} {before mid : Option (List HookCall)} {was te
     pub begin_below : x < item_count z
     begin_below = below x n.0 n.1
 
-    pub purge_begins : {now : Option (List HookCall)} {test' : ReadyTest} → Tells mid now (called.Begin (name_of p.names x) (class_at p.classes x) ∷ []) → SameTest test test'
+    pub purge_begins : {now : Option (List HookCall)} {test' : ReadyTest} → Tells mid now (called.Begin (name_of p.names x) (class_at p.kinds x) ∷ []) → SameTest test test'
         → IsPurging z old before now was test' (steps + 1) (record p { lives = set p.lives x Begun; begun = p.begun + 1 }) (history ++ by Collector (act.Begun (name_of p.names x) ∷ []))
     purge_begins {now} {test'} told same =
         let name = name_known x n.0 n.1 in
@@ -198,7 +200,7 @@ module _ {z : Sizes} {old : Shown} {before mid : Option (List HookCall)} {was te
     pub ask_waits : 0 < get_or p.waiting (first_at p.firsts y) 0
     ask_waits = some_wait z p s k idle all none more
 
-    pub purge_refused : {now : Option (List HookCall)} {test' : ReadyTest} → Tells mid now (asked_calls (name_of p.names y) (class_at p.classes y) poll false) → test (name_of p.names y) (class_at p.classes y) poll false → SameTest test test'
+    pub purge_refused : {now : Option (List HookCall)} {test' : ReadyTest} → Tells mid now (asked_calls (name_of p.names y) (class_at p.kinds y) poll false) → test (name_of p.names y) (class_at p.kinds y) poll false → SameTest test test'
         → IsPurging z old before now was test' (steps + 1) (record p { polls = set p.polls y poll; order = set p.order kept y; listed = end; begun = end; from = from + 1; kept = kept + 1 })
         (history ++ by Collector (asked_acts (name_of p.names y) poll false))
     purge_refused {now} {test'} told meets same =
@@ -209,7 +211,7 @@ module _ {z : Sizes} {old : Shown} {before mid : Option (List HookCall)} {was te
         (λ lane r h. h) refl (subst₂ (λ (n : Name) (class : ClassId). Tells mid now (asked_calls n class poll false)) name (class_known y m.0 m.1) told)
         ((i.same m.0 (class_of (after old.history) m.0) poll false).1 (subst₂ (λ (n : Name) (class : ClassId). test n class poll false) name (class_known y m.0 m.1) meets), tt) same)
 
-    pub purge_agreed : {now : Option (List HookCall)} {test' : ReadyTest} → Tells mid now (asked_calls (name_of p.names y) (class_at p.classes y) poll true) → test (name_of p.names y) (class_at p.classes y) poll true → SameTest test test'
+    pub purge_agreed : {now : Option (List HookCall)} {test' : ReadyTest} → Tells mid now (asked_calls (name_of p.names y) (class_at p.kinds y) poll true) → test (name_of p.names y) (class_at p.kinds y) poll true → SameTest test test'
         → IsPurging z old before now was test' (steps + 1)
         (record p { lives = set p.lives y Finished; polls = set p.polls y poll; waiting = set p.waiting (first_at p.firsts y) (get_or p.waiting (first_at p.firsts y) 0 - 1); listed = end; begun = end; from = from + 1; kept = kept; done = finished_unit (first_at p.firsts y) (get_or p.waiting (first_at p.firsts y) 0 - 1) })
         (history ++ by Collector (asked_acts (name_of p.names y) poll true))

@@ -51,7 +51,9 @@ refuses z p h l m asked names room (create.NamesSpent left) was lane opened is b
       idle = s.idle;
       marks = s.marks;
       roots_marked = s.roots_marked;
-      classes = s.classes;
+      kinds = s.kinds;
+      cells = s.cells;
+      black = s.black;
       removed = s.removed;
       gone = s.gone;
       order = s.order;
@@ -78,7 +80,9 @@ refuses z p h l m asked names room (create.Full free) was lane opened is by_name
       idle = s.idle;
       marks = s.marks;
       roots_marked = s.roots_marked;
-      classes = s.classes;
+      kinds = s.kinds;
+      cells = s.cells;
+      black = s.black;
       removed = s.removed;
       gone = s.gone;
       order = s.order;

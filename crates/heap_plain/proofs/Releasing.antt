@@ -20,8 +20,9 @@ use Rattle.heap_plain.specs.declared.life.Life.TheVariants.{Free, Live}
 use Rattle.heap_plain.specs.Parts.{Parts, name_at, life_at, is_gone, stage_of}
 use Rattle.heap_plain.specs.Listing.{chained}
 use Rattle.heap_plain.specs.Purging.{Stocks, give_all, CanGive}
-use Rattle.heap_plain.specs.Sections.{Distinct, NamesShow, UnitsShow, StandsAt, LivesAt, AreLinked, RootsShow, rooted_at, HeldShow, RemovedShow, removal_at, removal_of, GoneAt, GoneShow, LiesAt, ClassesShow, QueueShows, AreNamed, ReadyAt, FreeShows, gone_world, todo_of, at_end, still_there}
+use Rattle.heap_plain.specs.Sections.{Distinct, NamesShow, UnitsShow, StandsAt, LivesAt, AreLinked, RootsShow, rooted_at, HeldShow, RemovedShow, removal_at, removal_of, GoneAt, GoneShow, LiesAt, KindsShow, CellsShow, QueueShows, AreNamed, ReadyAt, FreeShows, gone_world, todo_of, at_end, still_there}
 use Rattle.heap_plain.specs.Plain.{Shows, calm}
+use Rattle.heap_plain.proofs.Cells.{cells_less}
 use Rattle.heap_plain.proofs.WorldFacts.{has_among, among_has, among_test, test_among, no_longer}
 use Rattle.heap_plain.proofs.Fillings.{Lists-same}
 use Rattle.heap_plain.proofs.Standing.{name_below, links_same}
@@ -379,11 +380,10 @@ module _ (z : Sizes) (p : Parts) (s : State) (k : Shows z p (calm s)) (idle : p.
     all = λ v a. let r = k.units.all v a in (r.0, stands' r.0 v r.1);
   }
 
-  roots' : RootsShow z t.names t.lives p.roots w.rooted w.cell w.strong
+  roots' : RootsShow z t.names t.lives p.roots w.rooted w.strong
   roots' = record {
     bits = Lists-same p.roots (item_count z) (λ i. rooted_at w.rooted (name_at p.names i)) _ k.roots.bits (λ i. same i (name_at p.names i) refl);
     living = λ m e. let j = k.roots.living m e in (j.0, still_lives j.0 m j.1);
-    cells_empty = k.roots.cells_empty;
     no_strong = k.roots.no_strong;
   }
     where
@@ -405,8 +405,11 @@ module _ (z : Sizes) (p : Parts) (s : State) (k : Shows z p (calm s)) (idle : p.
   held' : HeldShow t.names t.lives w.opened s.frames
   held' = record { living = λ lane m e. let j = k.held.living lane m e in (j.0, still_lives j.0 m j.1); closed = k.held.closed; paid = k.held.paid }
 
-  classes' : ClassesShow z t.names p.classes w.kinds
-  classes' = record { len = k.classes.len; each = λ i m h. k.classes.each i m (was_named i m h).0 }
+  kinds' : KindsShow z t.names p.kinds w.kinds
+  kinds' = record { len = k.kinds.len; each = λ i m h. k.kinds.each i m (was_named i m h).0; fit = k.kinds.fit }
+
+  cells' : CellsShow z t.names t.lives p.kinds p.targets p.plains w.kinds w.cell w.plain
+  cells' = cells_less (λ i m a. lived i m a) (λ i m slot j v there below e a. still_lives j v a) k.cells
 
   -- ---- removed objects
 
@@ -542,7 +545,9 @@ module _ (z : Sizes) (p : Parts) (s : State) (k : Shows z p (calm s)) (idle : p.
     idle = k.idle;
     marks = λ e. absurd (let a = idle in cc);
     roots_marked = λ e. absurd (let a = idle in cc);
-    classes = classes';
+    kinds = kinds';
+    cells = cells';
+    black = λ e. absurd (let a = idle in cc);
     removed = removed';
     gone = gone';
     order = k.order;

@@ -89,11 +89,10 @@ module _ {names : List (Option Name)} {lives ls : List Life} (same : SameLives l
     all = λ u a. let r = us.all u a in (r.0, stands_lives r.0 u r.1);
   }
 
-  pub roots_lives : {z : Sizes} {roots : List Bool} {rooted : Name → Bool} {cell : Name → ℕ → Option Name} {strong : ℕ → ℕ → Option Name} → RootsShow z names lives roots rooted cell strong → RootsShow z names ls roots rooted cell strong
+  pub roots_lives : {z : Sizes} {roots : List Bool} {rooted : Name → Bool} {strong : ℕ → ℕ → Option Name} → RootsShow z names lives roots rooted strong → RootsShow z names ls roots rooted strong
   roots_lives rs = record {
     bits = rs.bits;
     living = λ n e. let j = rs.living n e in (j.0, lives_there j.0 n j.1);
-    cells_empty = rs.cells_empty;
     no_strong = rs.no_strong;
   }
 

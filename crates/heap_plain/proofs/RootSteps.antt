@@ -10,7 +10,7 @@ use Rattle.world_model.specs.Sizes.{Sizes, item_count}
 use Rattle.world_model.specs.NameLists.{same_name, has, set_at, set_name, same_pass}
 use Rattle.world_model.specs.World.{is_open, unit_of}
 use Rattle.world_model.specs.State.{Frame, is_marked}
-use Rattle.world_model.specs.Histories.{after, state_of}
+use Rattle.world_model.specs.Histories.{MayBy, after, state_of}
 use Rattle.world_model.proofs.ListFacts.{and_true}
 use Rattle.world_model.proofs.NameFacts.{same_name_true, same_name_refl, set_at_same}
 use Rattle.world_model.proofs.Units.{AreApart, units_apart}
@@ -18,12 +18,13 @@ use Rattle.heap_plain.specs.Types.{Name, Ref, Lane, Pass, Phase, Idle, Marking, 
 use Rattle.heap_plain.specs.Types.act
 use Rattle.heap_plain.specs.declared.life.Life.{Life}
 use Rattle.heap_plain.specs.Parts.{Parts, Holds, name_at, first_at, is_marking}
-use Rattle.heap_plain.specs.Sections.{NamesShow, StandsAt, LivesAt, RootsShow, RootsMarked, HeldShow, MarksShow, rooted_at, pushed_of, grey_of}
+use Rattle.heap_plain.specs.Sections.{NamesShow, StandsAt, LivesAt, RootsShow, RootsMarked, HeldShow, WorkShows, MarksShow, TargetsMarked, rooted_at, pushed_of, grey_of}
 use Rattle.heap_plain.specs.Plain.{Shows, IsPlain}
 use Rattle.heap_plain.proofs.WorldFacts.{at_set, in_world_of, unit_of_is}
 use Rattle.heap_plain.proofs.Fillings.{Lists-set}
 use Rattle.heap_plain.proofs.Entries.{plain_more, holds_more}
 use Rattle.heap_plain.proofs.Standing.{name_below}
+use Rattle.heap_plain.proofs.Cells.{targets_push}
 use Rattle.heap_plain.proofs.Refusals.{unchanged, held_same, keeps_held}
 use Rattle.heap_plain.proofs.MarkSteps.{mark_one, work_room, work_push, pushed_push, grey_push}
 
@@ -50,14 +51,13 @@ need_not on false test phase is e o m = absurd (let both : (on && (is_marking ph
 
 -- ---- the root bits
 
-pub roots_set : {z : Sizes} {names : List (Option Name)} {made : List ℕ} {kinds : _} {lives : List Life} {roots : List Bool} {rooted : Name → Bool} {cell : _} {strong : _} (i : ℕ) (n : Name) (on : Bool)
-    → NamesShow z names made kinds → LivesAt names lives i n → RootsShow z names lives roots rooted cell strong → RootsShow z names lives (set roots i on) (set_name rooted n on) cell strong
+pub roots_set : {z : Sizes} {names : List (Option Name)} {made : List ℕ} {kinds : _} {lives : List Life} {roots : List Bool} {rooted : Name → Bool} {strong : _} (i : ℕ) (n : Name) (on : Bool)
+    → NamesShow z names made kinds → LivesAt names lives i n → RootsShow z names lives roots rooted strong → RootsShow z names lives (set roots i on) (set_name rooted n on) strong
 roots_set {z} {names} {lives} {roots} {rooted} i n on ns here s = record {
   bits = Lists-set roots (item_count z) i on (λ j. rooted_at rooted (name_at names j)) _ s.bits (omega (arith, name_below names i n here.name, ns.items))
       (ap (rooted_at (set_name rooted n on)) here.name ∙ (let t = same_name_refl n in rw t refl))
       (λ j ne. others j ne (name_at names j) refl);
   living = λ m e. living m (same_name m n) refl e;
-  cells_empty = s.cells_empty;
   no_strong = s.no_strong;
 }
   where
@@ -82,10 +82,10 @@ roots_marked_set firsts roots marked i on inside shaded k j e = dite (ℕ_discre
 
 -- ---- the frame of a lane that marked a unit, and then stored
 
-abbrev marking_frame : Frame → Name → Frame
+abbrev pub marking_frame : Frame → Name → Frame
 marking_frame f of = record f { owed = Some of; shaded = true }
 
-abbrev marked_frames : (ℕ → Frame) → ℕ → Name → ℕ → Frame
+abbrev pub marked_frames : (ℕ → Frame) → ℕ → Name → ℕ → Frame
 marked_frames frames l of = set_at frames l (marking_frame (frames l) of)
 
 held_marked : (names : List (Option Name)) (lives : List Life) (opened : List Pass) (frames : ℕ → Frame) (l : ℕ) (of : Name) → HeldShow names lives opened frames
@@ -116,22 +116,22 @@ module _ (z : Sizes) (p : Parts) (h : List Entry) (l : ℕ) (at : Ref) (was : Is
   abbrev head : ℕ
   head = first_at p.firsts at.index
 
-  apart : AreApart (after h).kinds (after h).units
+  pub apart : AreApart (after h).kinds (after h).units
   apart = units_apart z h was.legal
 
-  here : LivesAt p.names p.lives at.index n
+  pub here : LivesAt p.names p.lives at.index n
   here = let j = s.held.living l n held.given in subst (λ (i : ℕ). LivesAt p.names p.lives i n) (held.alone j.0 j.1.name) j.1
 
-  abbrev u : List Name
+  abbrev pub u : List Name
   u = (s.units.each at.index here.life).0
 
-  stands : StandsAt p.names p.firsts p.sizes p.next p.lives (after h).units head u
+  pub stands : StandsAt p.names p.firsts p.sizes p.next p.lives (after h).units head u
   stands = (s.units.each at.index here.life).1
 
-  member : has u n ≡ true
+  pub member : has u n ≡ true
   member = stands.whole at.index n here refl
 
-  unit_is : unit_of (after h) n ≡ u
+  pub unit_is : unit_of (after h) n ≡ u
   unit_is = unit_of_is (after h).kinds (after h).units u n apart stands.among member
 
   pub head_below : head < item_count z
@@ -145,7 +145,7 @@ module _ (z : Sizes) (p : Parts) (h : List Entry) (l : ℕ) (at : Ref) (was : Is
   was_rooted old e = e ∙ s.roots.bits.each at.index false index_below ∙ ap (rooted_at (after h).rooted) here.name
 
   -- the unit is marked where its bit is set
-  marked_is : p.phase ≡ Marking → get_or p.marked head false ≡ is_marked (state_of h).marks (unit_of (after h) n)
+  pub marked_is : p.phase ≡ Marking → get_or p.marked head false ≡ is_marked (state_of h).marks (unit_of (after h) n)
   marked_is e = (s.marks e).bits head u stands ∙ sym (ap (is_marked (state_of h).marks) unit_is)
 
   pub roots_plain : (on old : Bool) → old ≡ get_or p.roots at.index false → (on ≡ true → p.phase ≡ Marking → get_or p.marked head false ≡ true)
@@ -170,7 +170,9 @@ module _ (z : Sizes) (p : Parts) (h : List Entry) (l : ℕ) (at : Ref) (was : Is
         idle = s.idle;
         marks = s.marks;
         roots_marked = λ e. roots_marked_set p.firsts p.roots p.marked at.index on (omega (arith, index_below, s.roots.bits.len)) (λ o. shaded o e) (s.roots_marked e);
-        classes = s.classes;
+        kinds = s.kinds;
+        cells = s.cells;
+        black = s.black;
         removed = s.removed;
         gone = s.gone;
         order = s.order;
@@ -188,6 +190,44 @@ module _ (z : Sizes) (p : Parts) (h : List Entry) (l : ℕ) (at : Ref) (was : Is
   pub has_room : p.phase ≡ Marking → get_or p.marked head false ≡ false → p.pushed < item_count z
   has_room e white = work_room head s.work (s.marks e) head_below white
 
+  -- ---- the unit is marked first
+
+  module _ (e : p.phase ≡ Marking) (white : get_or p.marked head false ≡ false) where
+    pub inside : head < length p.marked
+    inside = omega (arith, head_below, s.work.marked_len)
+
+    pub room : p.pushed < length p.work
+    room = omega (arith, has_room e white, s.work.work_len)
+
+    pub now_marked : get_or (set p.marked head true) head false ≡ true
+    now_marked = get_or-set_same p.marked head true false inside
+
+    pub still : (i : ℕ) → get_or p.marked i false ≡ true → get_or (set p.marked head true) i false ≡ true
+    still i b = dite (ℕ_discrete i head) (λ (eq : i ≡ head). ap (λ (j : ℕ). get_or (set p.marked head true) j false) eq ∙ now_marked) (λ (ne : i ≢ head). get_or-set_other p.marked head i true false ne ∙ b)
+
+    pub after_mark : MarksShow p.names p.firsts p.sizes p.next p.lives (after h).units (set p.marked head true) (pushed_of p.work p.pushed ++ head ∷ []) (grey_of p.work p.scanned p.pushed ++ head ∷ []) (n ∷ (state_of h).marks.kept) (state_of h).marks.fresh (state_of h).marks.scanned
+    after_mark = mark_one s.names s.units apart head u n stands member white inside (s.marks e)
+
+    pub may_keep : MayBy z (state_of h) (Lane l) (act.Kept n)
+    may_keep = record {
+      in_range = lane;
+      frame = record { opened = opened; continues = rw (s.held.paid l) tt };
+      may = record {
+        white = record { marking = sym s.phase ∙ e; living = in_world_of (after h).units u n stands.among member; unmarked = sym (marked_is e) ∙ white };
+        held = held.given;
+      };
+    }
+
+    -- what the vectors show of marks and cells then
+    pub shaded_work : WorkShows z (set p.marked head true) (set p.work p.pushed head) p.scanned (p.pushed + 1)
+    shaded_work = work_push head s.work head_below (has_room e white)
+
+    pub shaded_marks : MarksShow p.names p.firsts p.sizes p.next p.lives (after h).units (set p.marked head true) (pushed_of (set p.work p.pushed head) (p.pushed + 1)) (grey_of (set p.work p.pushed head) p.scanned (p.pushed + 1)) (n ∷ (state_of h).marks.kept) (state_of h).marks.fresh (state_of h).marks.scanned
+    shaded_marks = rw (grey_push p.work p.scanned p.pushed head room s.work.order, pushed_push p.work p.pushed head room) after_mark
+
+    pub shaded_black : TargetsMarked z.slots p.firsts p.targets p.lives (set p.marked head true) (grey_of (set p.work p.pushed head) p.scanned (p.pushed + 1))
+    shaded_black = rw (grey_push p.work p.scanned p.pushed head room s.work.order) (targets_push head inside (s.black e))
+
   abbrev f1 : Frame
   f1 = marking_frame ((state_of h).frames l) n
 
@@ -197,14 +237,7 @@ module _ (z : Sizes) (p : Parts) (h : List Entry) (l : ℕ) (at : Ref) (was : Is
   pub roots_shaded : (old : Bool) → old ≡ get_or p.roots at.index false → p.phase ≡ Marking → get_or p.marked head false ≡ false
       → IsPlain z (record p { roots = set p.roots at.index true; marked = set p.marked head true; work = set p.work p.pushed head; pushed = p.pushed + 1 }) (h ++ both old)
   roots_shaded old is e white = plain_more z p _ h (both old) was (
-    record {
-      in_range = lane;
-      frame = record { opened = opened; continues = rw (s.held.paid l) tt };
-      may = record {
-        white = record { marking = sym s.phase ∙ e; living = in_world_of (after h).units u n stands.among member; unmarked = sym (marked_is e) ∙ white };
-        held = held.given;
-      };
-    },
+    may_keep e white,
     (
       record {
         in_range = lane;
@@ -212,7 +245,7 @@ module _ (z : Sizes) (p : Parts) (h : List Entry) (l : ℕ) (at : Ref) (was : Is
         may = record {
           held = rw (set_at_same (state_of h).frames l f1) held.given;
           was = was_rooted old is;
-          shaded = λ o m. rw unit_is (sym (after_mark.bits head u stands) ∙ now_marked);
+          shaded = λ o m. rw unit_is (sym ((after_mark e white).bits head u stands) ∙ now_marked e white);
         };
       },
       tt,
@@ -226,11 +259,13 @@ module _ (z : Sizes) (p : Parts) (h : List Entry) (l : ℕ) (at : Ref) (was : Is
         distinct = s.distinct;
         roots = roots_set at.index n true s.names here s.roots;
         held = held_marked p.names p.lives _ _ l n s.held;
-        work = work_push head s.work head_below (has_room e white);
+        work = shaded_work e white;
         idle = λ ne. absurd (ne e);
-        marks = λ m. rw (grey_push p.work p.scanned p.pushed head room s.work.order, pushed_push p.work p.pushed head room) after_mark;
-        roots_marked = λ m. roots_marked_set p.firsts p.roots (set p.marked head true) at.index true (omega (arith, index_below, s.roots.bits.len)) (λ o. now_marked) (λ i r. still (first_at p.firsts i) (s.roots_marked e i r));
-        classes = s.classes;
+        marks = λ m. shaded_marks e white;
+        roots_marked = λ m. roots_marked_set p.firsts p.roots (set p.marked head true) at.index true (omega (arith, index_below, s.roots.bits.len)) (λ o. now_marked e white) (λ i r. still e white (first_at p.firsts i) (s.roots_marked e i r));
+        kinds = s.kinds;
+        cells = s.cells;
+        black = λ m. shaded_black e white;
         removed = s.removed;
         gone = s.gone;
         order = s.order;
@@ -241,21 +276,6 @@ module _ (z : Sizes) (p : Parts) (h : List Entry) (l : ℕ) (at : Ref) (was : Is
         none_asked = s.none_asked;
         no_steps = s.no_steps;
       })
-    where
-      inside : head < length p.marked
-      inside = omega (arith, head_below, s.work.marked_len)
-
-      room : p.pushed < length p.work
-      room = omega (arith, has_room e white, s.work.work_len)
-
-      now_marked : get_or (set p.marked head true) head false ≡ true
-      now_marked = get_or-set_same p.marked head true false inside
-
-      still : (i : ℕ) → get_or p.marked i false ≡ true → get_or (set p.marked head true) i false ≡ true
-      still i b = dite (ℕ_discrete i head) (λ (eq : i ≡ head). ap (λ (j : ℕ). get_or (set p.marked head true) j false) eq ∙ now_marked) (λ (ne : i ≢ head). get_or-set_other p.marked head i true false ne ∙ b)
-
-      after_mark : MarksShow p.names p.firsts p.sizes p.next p.lives (after h).units (set p.marked head true) (pushed_of p.work p.pushed ++ head ∷ []) (grey_of p.work p.scanned p.pushed ++ head ∷ []) (n ∷ (state_of h).marks.kept) (state_of h).marks.fresh (state_of h).marks.scanned
-      after_mark = mark_one s.names s.units apart head u n stands member white inside (s.marks e)
 
   pub shaded_held : (old : Bool) (k : ℕ) (r : Ref) → Holds record { history = h; names = p.names } k r → Holds record { history = h ++ both old; names = p.names } k r
   shaded_held old k r = holds_more h (both old) p.names k r (keeps_marked (state_of h).frames l k n r.name)

@@ -13,3 +13,6 @@ pub mod Purging
 -- what the vectors show of the state that a history leaves
 pub mod Sections
 pub mod Plain
+-- what the functions that mark and store do
+pub mod Shading
+pub mod Storing

@@ -1,6 +1,5 @@
 -- The notes of a collection, and what they leave of the vectors.
 use Rattle.std.specs.Prelude.{◌≡◌, ◌≢◌, ℕ, ◌+◌, ◌<◌, ◌≤◌, ◌⊎◌, Bool, true, false, not, ◌&&◌, List, [], ◌∷◌, ◌++◌, length, get_or, map, take, Option}
-use Rattle.std.specs.List.{sum_by}
 use Rattle.std.specs.Option.{option_to_list}
 use Rattle.std.proofs.Math.ListN.{set}
 use Rattle.heap_plain.specs.Types.{Name, Phase, Idle, Marking, Begin, Commit, Marker, Collector, MarkStop, Entry}
@@ -69,18 +68,6 @@ pub record Keeps (names : List (Option Name)) (firsts : List ℕ) (roots : List 
   pub room : length work' ≡ length work
 
 -- ---- a slice of marking
-
--- how many objects these units have
-abbrev pub size_of : List ℕ → List ℕ → ℕ
-size_of sizes heads = sum_by (λ head. get_or sizes head 0) heads
-
--- so many units of the grey ones were scanned
-pub record Scans (names : List (Option Name)) (sizes grey : List ℕ) (budget marker count objects : ℕ) (old new : List Entry) : Type 0 where
-  pub entries : new ≡ old ++ by (Marker marker) (map act.Scanned (names_at names (take count grey)))
-  pub total : objects ≡ size_of sizes (take count grey)
-  pub within : (k : ℕ) → k < count → size_of sizes (take k grey) < budget
-  pub few : count ≤ length grey
-  pub stopped : (budget ≤ objects) ⊎ (count ≡ length grey)
 
 -- why a slice stops that scanned so many objects
 abbrev pub StopsBy : ℕ → ℕ → MarkStop → Type 0

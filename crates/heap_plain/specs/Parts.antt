@@ -1,8 +1,8 @@
 -- The vectors of a plain heap, and what contracts see of them.
-use Rattle.std.specs.Prelude.{◌≡◌, ℕ, ◌<◌, Bool, true, false, List, length, get_or, slice_get, unwrap_or, Option, Some, None}
-use Rattle.std.specs.Option.{option_map_or}
+use Rattle.std.specs.Prelude.{◌≡◌, ℕ, ◌+◌, ◌*◌, ◌<◌, Bool, true, false, List, length, get_or, unwrap_or, Option, Some, None}
 use Rattle.std.proofs.Common.{ap, ◌∙◌}
 use Rattle.heap_plain.specs.Types.{Name, Ref, ClassId, Kind, Entry, Phase, Marking}
+use Rattle.heap_plain.specs.Types.ready
 use Rattle.world_model.specs.Histories.{state_of}
 use Rattle.world_model.specs.World.{Stage}
 use Rattle.world_model.specs.World as world
@@ -44,7 +44,9 @@ pub record Parts : Type 0 where
   pub firsts : List ℕ
   pub sizes : List ℕ
   pub next : List ℕ
-  pub classes : List ClassId
+  pub kinds : List Kind
+  pub targets : List (Option ℕ)
+  pub plains : List ℕ
   pub lives : List Life
   pub roots : List Bool
   pub marked : List Bool
@@ -99,12 +101,23 @@ stage_of _ = world.Removed
 abbrev pub name_of : List (Option Name) → ℕ → Name
 name_of names i = unwrap_or (name_at names i) (record { lane = 0; count = 0 })
 
--- the class of the object at an index, and that of the kind at a place
-abbrev pub class_at : List ClassId → ℕ → ClassId
-class_at classes i = get_or classes i (record { 0 = 0 })
+-- the kind at an index at which no object was made
+abbrev pub no_kind : Kind
+no_kind = record { class = record { 0 = 0 }; refs = 0; plain = 0; ready = ready.After 0 }
 
-abbrev pub kind_class : List Kind → ℕ → ClassId
-kind_class kinds k = option_map_or (λ kind. kind.class) (slice_get kinds k) (record { 0 = 0 })
+-- the kind of the object at an index, and its class
+abbrev pub kind_at : List Kind → ℕ → Kind
+kind_at kinds i = get_or kinds i no_kind
+
+abbrev pub class_at : List Kind → ℕ → ClassId
+class_at kinds i = (kind_at kinds i).class
+
+-- the index of the object that a reference cell of the object at an index names, and the number in a plain cell of it, in rows of so many slots
+abbrev pub target_at : ℕ → List (Option ℕ) → ℕ → ℕ → Option ℕ
+target_at slots targets i slot = get_or targets (i * slots + slot) None
+
+abbrev pub plain_at : ℕ → List ℕ → ℕ → ℕ → ℕ
+plain_at slots plains i slot = get_or plains (i * slots + slot) 0
 
 abbrev pub is_marking : Phase → Bool
 is_marking Marking = true

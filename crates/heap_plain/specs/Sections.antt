@@ -1,7 +1,7 @@
 -- What the vectors of a plain heap show, in sections: each over the vectors and the fields of the world that it reads.
-use Rattle.std.specs.Prelude.{◌≡◌, ◌≢◌, ℕ, ◌+◌, ◌-◌, ◌*◌, ◌<◌, ◌≤◌, ◌==◌, ◌||◌, ◌&&◌, not, Bool, true, false, List, [], ◌∷◌, ◌++◌, length, get_or, map, take, drop, count_by, Option, Some, None}
+use Rattle.std.specs.Prelude.{◌≡◌, ◌≢◌, ℕ, ◌+◌, ◌-◌, ◌*◌, ◌<◌, ◌≤◌, ◌==◌, ◌||◌, ◌&&◌, not, Bool, true, false, List, [], ◌∷◌, ◌++◌, length, get_or, map, take, drop, count_by, slice_get, Option, Some, None}
 use Rattle.std.specs.List.{list_any}
-use Rattle.heap_plain.specs.Types.{Name, ClassId, Kind, Pass, Phase, Marking, Gathering, Lane}
+use Rattle.heap_plain.specs.Types.{Name, Kind, Pass, Phase, Marking, Gathering, Lane}
 use Rattle.world_model.specs.Sizes.{Sizes, item_count}
 use Rattle.world_model.specs.NameLists.{same_name, same_pass, has, members}
 use Rattle.world_model.specs.World.{World, empty_world, Removal, Removed as AtRemoved, Finished as AtFinished, has_stage, destruction_order}
@@ -10,7 +10,7 @@ use Rattle.world_model.proofs.ListFacts.{Among}
 use Rattle.world_model.proofs.Queues.{IsQueue}
 use Rattle.heap_plain.specs.declared.life.Life.{Life}
 use Rattle.heap_plain.specs.declared.life.Life.TheVariants.{Free, Live}
-use Rattle.heap_plain.specs.Parts.{Lists, name_at, life_at, first_at, next_at, class_at, kind_class, is_gone, stage_of}
+use Rattle.heap_plain.specs.Parts.{Lists, name_at, life_at, first_at, next_at, kind_at, target_at, plain_at, is_gone, stage_of}
 use Rattle.heap_plain.specs.Sweeping.{removed_names}
 
 -- ---- lists without repetition
@@ -93,10 +93,9 @@ abbrev pub rooted_at : (Name → Bool) → Option Name → Bool
 rooted_at rooted None = false
 rooted_at rooted (Some n) = rooted n
 
-pub record RootsShow (z : Sizes) (names : List (Option Name)) (lives : List Life) (roots : List Bool) (rooted : Name → Bool) (cell : Name → ℕ → Option Name) (strong : ℕ → ℕ → Option Name) : Type 0 where
+pub record RootsShow (z : Sizes) (names : List (Option Name)) (lives : List Life) (roots : List Bool) (rooted : Name → Bool) (strong : ℕ → ℕ → Option Name) : Type 0 where
   pub bits : Lists roots (item_count z) (λ i. rooted_at rooted (name_at names i))
   pub living : (n : Name) → rooted n ≡ true → (i : ℕ) × LivesAt names lives i n
-  pub cells_empty : (n : Name) (slot : ℕ) → cell n slot ≡ None
   pub no_strong : (lane number : ℕ) → strong lane number ≡ None
 
 -- ---- what frames hold
@@ -198,11 +197,36 @@ pub record GoneShow (z : Sizes) (names : List (Option Name)) (firsts sizes links
   pub each : (i : ℕ) → is_gone (life_at lives i) ≡ true → (u : List Name) × LiesAt names firsts sizes links waiting lives removals units (first_at firsts i) u
   pub all : (u : List Name) (n : Name) → Among units u → has u n ≡ true → still_there removals n ≡ true → (head : ℕ) × LiesAt names firsts sizes links waiting lives removals units head u
 
--- ---- classes
+-- ---- kinds
 
-pub record ClassesShow (z : Sizes) (names : List (Option Name)) (classes : List ClassId) (kinds : ℕ → List Kind) : Type 0 where
-  pub len : length classes ≡ item_count z
-  pub each : (i : ℕ) (n : Name) → name_at names i ≡ Some n → class_at classes i ≡ kind_class (kinds n.lane) (n.count - 1)
+-- at each index at which an object stands, its kind
+pub record KindsShow (z : Sizes) (names : List (Option Name)) (stored : List Kind) (kinds : ℕ → List Kind) : Type 0 where
+  pub len : length stored ≡ item_count z
+  pub each : (i : ℕ) (n : Name) → name_at names i ≡ Some n → slice_get (kinds n.lane) (n.count - 1) ≡ Some (kind_at stored i)
+  pub fit : (i : ℕ) → (kind_at stored i).refs + (kind_at stored i).plain ≤ z.slots
+
+-- ---- cells
+
+-- the living object at this index is the one that the cell names, if there is one
+abbrev pub Aims : List (Option Name) → List Life → Option ℕ → Option Name → Type 0
+Aims names lives None None = Unit {0}
+Aims names lives (Some t) (Some n) = LivesAt names lives t n
+Aims names lives _ _ = ⊥
+
+-- The cells of the living objects. A cell beyond the reference slots of an object names nothing, and neither does one of an object that is not made.
+pub record CellsShow (z : Sizes) (names : List (Option Name)) (lives : List Life) (stored : List Kind) (targets : List (Option ℕ)) (plains : List ℕ) (kinds : ℕ → List Kind) (cell : Name → ℕ → Option Name) (plain : Name → ℕ → ℕ) : Type 0 where
+  pub targets_len : length targets ≡ item_count z * z.slots
+  pub plains_len : length plains ≡ item_count z * z.slots
+  pub in_range : (i slot t : ℕ) → slot < z.slots → target_at z.slots targets i slot ≡ Some t → t < item_count z
+  pub aims : (i : ℕ) (n : Name) (slot : ℕ) → LivesAt names lives i n → slot < z.slots → Aims names lives (target_at z.slots targets i slot) (cell n slot)
+  pub no_more : (i : ℕ) (n : Name) (slot : ℕ) → LivesAt names lives i n → (kind_at stored i).refs ≤ slot → cell n slot ≡ None
+  pub numbers : (i : ℕ) (n : Name) (slot : ℕ) → LivesAt names lives i n → slot < z.slots → plain_at z.slots plains i slot ≡ plain n slot
+  pub unmade : (n : Name) (slot : ℕ) → length (kinds n.lane) < n.count → cell n slot ≡ None
+  pub unmade_plain : (n : Name) (slot : ℕ) → length (kinds n.lane) < n.count → plain n slot ≡ 0
+
+-- each cell of a living object whose unit is black names an object whose unit is marked
+pub record TargetsMarked (slots : ℕ) (firsts : List ℕ) (targets : List (Option ℕ)) (lives : List Life) (marked : List Bool) (grey : List ℕ) : Type 0 where
+  pub each : (i slot t : ℕ) → life_at lives i ≡ Live → slot < slots → target_at slots targets i slot ≡ Some t → get_or marked (first_at firsts i) false ≡ true → (Among grey (first_at firsts i) → ⊥) → get_or marked (first_at firsts t) false ≡ true
 
 -- ---- the queue of destruction
 

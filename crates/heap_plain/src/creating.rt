@@ -1,14 +1,15 @@
 //! Making a unit.
-ghost use Rattle.std.specs.Prelude.{◌≡◌, ◌∷◌, [], ◌++◌, ◌+◌, ◌-◌, ◌≤◌, ◌<◌, ◌^◌, Some, length};
+ghost use Rattle.std.specs.Prelude.{◌≡◌, ◌∷◌, [], ◌++◌, ◌+◌, ◌-◌, ◌*◌, ◌≤◌, ◌<◌, ◌^◌, Some, length};
 ghost use Rattle.heap_plain.specs.Types.{Lane};
 ghost use Rattle.world_model.specs.Engines.{act_of_refusal};
-ghost use Rattle.heap_plain.specs.Filling.{Filled, FilledAt};
+ghost use Rattle.heap_plain.specs.Filling.{Filled, FilledAt, RowsFilled};
 ghost use Rattle.heap_plain.specs.Stacks.{CanPop, popped};
 ghost use Rattle.heap_plain.specs.Creation.{Decides};
-ghost use Rattle.heap_plain.specs.Parts.{kind_class};
+ghost use Rattle.heap_plain.specs.Parts.{kind_at};
 
+use crate::filled::fill;
 use crate::stacks::popped;
-use world_model::{ClassId, CreateErr, Diary, Kind, Name, Pass, Ref};
+use world_model::{CreateErr, Diary, Kind, Name, Pass, Ref};
 
 /// Whether `asked` objects may be made where `left` names are left and `free` indexes are free.
 pub(crate) fn decide(asked: u32, left: u64, free: u32) -> Result<(), CreateErr>
@@ -71,13 +72,31 @@ pub(crate) fn fill_popped<T: Copy + Drop>(
     }
 }
 
-/// Writes the classes of these kinds to the places that the stack gives.
-pub(crate) fn classify(classes: &mut Vec<ClassId>, free: &[u32], top: usize, kinds: &[Kind])
-    requires stack { CanPop free.now top (length kinds.now) (length classes.old.items) }
-    ensures { FilledAt classes.old.items classes.new.items (popped free.now top) (length kinds.now) (kind_class kinds.now) }
+/// Writes these kinds to the places that the stack gives.
+pub(crate) fn classify(stored: &mut Vec<Kind>, free: &[u32], top: usize, kinds: &[Kind])
+    requires stack { CanPop free.now top (length kinds.now) (length stored.old.items) }
+    ensures { FilledAt stored.old.items stored.new.items (popped free.now top) (length kinds.now) (kind_at kinds.now) }
 {
     for k in 0..kinds.len() {
-        classes[popped(free, top, k) as usize] = kinds[k].class;
+        stored[popped(free, top, k) as usize] = kinds[k];
+    }
+}
+
+/// Writes `value` to all cells of the rows that the stack gives. A row has `slots` cells.
+pub(crate) fn fill_rows<T: Copy + Drop>(
+    cells: &mut Vec<T>,
+    free: &[u32],
+    top: usize,
+    count: usize,
+    slots: usize,
+    value: T,
+)
+    requires stack { CanPop free.now top count (length free.now) }
+    requires rows { length free.now * slots ≤ length cells.old.items }
+    ensures { RowsFilled cells.old.items cells.new.items (popped free.now top) count slots value }
+{
+    for k in 0..count {
+        fill(cells, popped(free, top, k) as usize * slots, slots, value);
     }
 }
 

@@ -2,32 +2,43 @@
 ghost use Rattle.std.specs.Prelude.{◌≡◌, ℕ, ◌+◌, ◌*◌, ◌<◌, [], IfOk};
 ghost use Rattle.heap_plain.specs.Parts.{HoldsNothing};
 
-use crate::creating::{answer, classify, decide, fill_popped, link, place, refuse};
+use crate::creating::{answer, classify, decide, fill_popped, fill_rows, link, place, refuse};
 use crate::filled::{copy, fill, filled};
 use crate::frames::count_open;
 use crate::life::Life;
 use crate::listing::list_units;
-use crate::marking::{is_done, keep_roots, may_end, may_start, named, scan_units, starts, stop_of};
+use crate::marking::{is_done, keep_roots, may_end, may_start, named, starts, stop_of};
 use crate::purging::{ask_at, begin_at, finish_at, release, turned};
 use crate::rooting::{must_mark, store};
+use crate::scanning::shade_unit;
 use crate::stacks::{full_stacks, popped};
+use crate::storing::{index_of, name_of, referred, shade_target};
 use crate::sweeping::{find_removed, remove_white};
 use std::alloc::{AllocError, Global};
 use std::marker::{Model, PhantomData};
 use world_model::{
     Begin, ClassId, Commit, CreateErr, Diary, Engine, Hooks, Kind, Marked, Name, Pass, Phase,
-    Purged, Ref, Shape, SweepStop, Swept,
+    Purged, Ready, Ref, Shape, SweepStop, Swept,
+};
+
+/// The kind at an index that was never used.
+const NO_KIND: Kind = Kind {
+    class: ClassId(0),
+    refs: 0,
+    plain: 0,
+    ready: Ready::After(0),
 };
 
 /// A world of objects over vectors, for one owner.
 ///
 /// All memory is taken by `new`: for each index of the shape its name, the first index and the
-/// size of its unit, the index of the next member, its class, whether it lives, its root bit, its
-/// mark bit, the number of its polls, the number of members that its unit waits for, a place of
-/// the worklist, one of the stack of free indexes and one of the queue of destruction.
-/// Opening and closing a frame, setting a root and making a unit cost as many steps as they have
-/// objects; a slice of marking as many as it scans units; a step of destruction as many as it has
-/// objects; the rest looks at all items.
+/// size of its unit, the index of the next member, its kind, a row of reference cells and one of plain
+/// cells, whether it lives, its root bit, its mark bit, the number of its polls, the number of members
+/// that its unit waits for, a place of the worklist, one of the stack of free indexes and one of the
+/// queue of destruction.
+/// Opening and closing a frame, setting a root, and reading and writing a cell cost a few steps; making
+/// a unit as many as it has cells; a slice of marking as many as the objects that it scans have
+/// reference cells; a step of destruction as many as it has objects; the rest looks at all items.
 #[derive(Drop)]
 pub struct PlainHeap<S: Shape> {
     /// The name at each index, while its object is not released.
@@ -37,7 +48,11 @@ pub struct PlainHeap<S: Shape> {
     sizes: Vec<u32>,
     /// At the index of each member of a unit but the last that of the next one.
     next: Vec<u32>,
-    classes: Vec<ClassId>,
+    kinds: Vec<Kind>,
+    /// The cells, a row of slots for each index: the index of the object that a reference cell names,
+    /// and the number in a plain one. Marking follows the reference cells of each object alone.
+    targets: Vec<Option<u32>>,
+    plains: Vec<u64>,
     lives: Vec<Life>,
     roots: Vec<bool>,
     /// At the index of the first member of a unit whether the unit is marked.
@@ -91,7 +106,9 @@ impl<S: Shape> Model for PlainHeap<S> {
       firsts = h.firsts.items;
       sizes = h.sizes.items;
       next = h.next.items;
-      classes = h.classes.items;
+      kinds = h.kinds.items;
+      targets = h.targets.items;
+      plains = h.plains.items;
       lives = h.lives.items;
       roots = h.roots.items;
       marked = h.marked.items;
@@ -125,12 +142,15 @@ impl<S: Shape> PlainHeap<S> {
         let lanes = S::LANES as usize;
         let quota = S::QUOTA;
         let items = lanes * quota as usize;
+        let cells = items * S::SLOTS as usize;
         Ok(PlainHeap {
             names: filled(alloc, items, None)?,
             firsts: filled(alloc, items, 0)?,
             sizes: filled(alloc, items, 0)?,
             next: filled(alloc, items, 0)?,
-            classes: filled(alloc, items, ClassId(0))?,
+            kinds: filled(alloc, items, NO_KIND)?,
+            targets: filled(alloc, cells, None)?,
+            plains: filled(alloc, cells, 0)?,
             lives: filled(alloc, items, Life::Free)?,
             roots: filled(alloc, items, false)?,
             marked: filled(alloc, items, false)?,
@@ -191,9 +211,12 @@ impl<S: Shape> Engine<S> for PlainHeap<S> {
         }
         let top = lane as usize * S::QUOTA as usize + spare as usize;
         let head = popped(&self.free, top, 0);
+        let slots = S::SLOTS as usize;
         place(&mut self.names, &self.free, top, asked, lane, made + 1);
         fill_popped(&mut self.firsts, &self.free, top, asked, head);
-        classify(&mut self.classes, &self.free, top, kinds);
+        classify(&mut self.kinds, &self.free, top, kinds);
+        fill_rows(&mut self.targets, &self.free, top, asked, slots, None);
+        fill_rows(&mut self.plains, &self.free, top, asked, slots, 0);
         fill_popped(&mut self.lives, &self.free, top, asked, Life::Live);
         link(&mut self.next, &self.free, top, asked);
         self.sizes[head as usize] = asked as u32;
@@ -203,6 +226,53 @@ impl<S: Shape> Engine<S> for PlainHeap<S> {
         self.diary.make(Pass::Lane(lane), kinds, made + 1);
         answer(out, &self.free, top, lane, made + 1);
         Ok(())
+    }
+
+    fn kind_of(&mut self, _lane: u32, at: Ref) -> Kind {
+        self.kinds[at.index as usize]
+    }
+
+    fn read_ref(&mut self, lane: u32, at: Ref, slot: u32) -> Option<Ref> {
+        let place = at.index as usize * S::SLOTS as usize + slot as usize;
+        let got = referred(&self.names, self.targets[place]);
+        self.diary
+            .read_ref(Pass::Lane(lane), at.name, slot, name_of(got));
+        got
+    }
+
+    fn write_ref(&mut self, lane: u32, at: Ref, slot: u32, to: Option<Ref>) -> Option<Ref> {
+        let place = at.index as usize * S::SLOTS as usize + slot as usize;
+        self.pushed = shade_target(
+            self.phase,
+            to,
+            &self.firsts,
+            &mut self.marked,
+            &mut self.work,
+            self.pushed,
+            lane,
+            &mut self.diary,
+        );
+        let old = referred(&self.names, self.targets[place]);
+        self.targets[place] = index_of(to);
+        self.diary
+            .write_ref(Pass::Lane(lane), at.name, slot, name_of(to), name_of(old));
+        old
+    }
+
+    fn read_plain(&mut self, lane: u32, at: Ref, slot: u32) -> u64 {
+        let place = at.index as usize * S::SLOTS as usize + slot as usize;
+        let got = self.plains[place];
+        self.diary.read_plain(Pass::Lane(lane), at.name, slot, got);
+        got
+    }
+
+    fn write_plain(&mut self, lane: u32, at: Ref, slot: u32, value: u64) -> u64 {
+        let place = at.index as usize * S::SLOTS as usize + slot as usize;
+        let old = self.plains[place];
+        self.plains[place] = value;
+        self.diary
+            .write_plain(Pass::Lane(lane), at.name, slot, value, old);
+        old
     }
 
     fn set_root(&mut self, lane: u32, at: Ref, on: bool) -> bool {
@@ -220,15 +290,30 @@ impl<S: Shape> Engine<S> for PlainHeap<S> {
 
     fn mark(&mut self, marker: u32, budget: u32) -> Marked {
         self.diary.slice_open(Pass::Marker(marker));
-        let (units, scanned) = scan_units(
-            &self.names,
-            &self.sizes,
-            &self.work[self.scanned..self.pushed],
-            budget,
-            marker,
-            &mut self.diary,
-        );
-        self.scanned += units;
+        let mut scanned = 0;
+        while self.scanned < self.pushed && scanned < budget {
+            let head = self.work[self.scanned];
+            let size = self.sizes[head as usize];
+            self.pushed = shade_unit(
+                &self.names,
+                &self.firsts,
+                &self.next,
+                &self.kinds,
+                &self.targets,
+                S::SLOTS as usize,
+                head,
+                size,
+                &mut self.marked,
+                &mut self.work,
+                self.pushed,
+                marker,
+                &mut self.diary,
+            );
+            self.scanned += 1;
+            self.diary
+                .scanned(Pass::Marker(marker), named(&self.names, head as usize));
+            scanned += size;
+        }
         let reply = Marked {
             scanned,
             stop: stop_of(scanned, budget),
@@ -361,7 +446,7 @@ impl<S: Shape> Engine<S> for PlainHeap<S> {
                 self.begun += 1;
                 begin_at(
                     &self.names,
-                    &self.classes,
+                    &self.kinds,
                     &mut self.lives,
                     index,
                     hooks,
@@ -395,7 +480,7 @@ impl<S: Shape> Engine<S> for PlainHeap<S> {
             self.from = from + 1;
             let agreed = ask_at(
                 &self.names,
-                &self.classes,
+                &self.kinds,
                 &mut self.polls,
                 index as usize,
                 hooks,

@@ -13,7 +13,9 @@ mod listing;
 mod marking;
 mod purging;
 mod rooting;
+mod scanning;
 mod stacks;
+mod storing;
 mod sweeping;
 
 pub use heap::PlainHeap;

@@ -1,7 +1,7 @@
 //! Beginning a collection, scanning, and the commit.
 ghost use Rattle.std.specs.Prelude.{◌≡◌, ◌<◌, ◌≤◌, ◌^◌, IsTrue, IsSome, Some, get_or, length, false, true, ℕ};
 ghost use Rattle.heap_plain.specs.Parts.{name_at, first_at};
-ghost use Rattle.heap_plain.specs.Notes.{MayStart, MayEnd, KeepsOne, Keeps, Scans, StopsBy, starts, is_done};
+ghost use Rattle.heap_plain.specs.Notes.{MayStart, MayEnd, KeepsOne, Keeps, StopsBy, starts, is_done};
 
 use world_model::{Begin, Commit, Diary, MarkStop, Name, Pass, Phase};
 
@@ -121,33 +121,6 @@ pub(crate) fn keep_roots(
         );
     }
     pushed
-}
-
-/// Scans grey units, the first one first, until so many objects or more are scanned, or none is
-/// left. It tells how many units it scanned, and how many objects.
-pub(crate) fn scan_units(
-    names: &[Option<Name>],
-    sizes: &[u32],
-    grey: &[u32],
-    budget: u32,
-    marker: u32,
-    diary: &mut Diary,
-) -> (usize, u32)
-    requires few { length grey.now ≤ 2 ^ 20 }
-    requires small { (i : ℕ) → get_or sizes.now i 0 ≤ 1024 }
-    requires sizes { (k : ℕ) → k < length grey.now → get_or grey.now k 0 < length sizes.now }
-    requires named { (k : ℕ) → k < length grey.now → IsSome (name_at names.now (get_or grey.now k 0)) }
-    ensures { Scans names.now sizes.now grey.now budget marker result.0 result.1 diary.old diary.new }
-{
-    let mut count = 0;
-    let mut total = 0;
-    while count < grey.len() && total < budget {
-        let head = grey[count] as usize;
-        total += sizes[head];
-        diary.scanned(Pass::Marker(marker), named(names, head));
-        count += 1;
-    }
-    (count, total)
 }
 
 /// Why a slice stops that scanned so many objects and left nothing grey, or spent its budget.

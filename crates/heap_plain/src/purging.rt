@@ -13,27 +13,27 @@ ghost use Rattle.heap_plain.specs.Listing.{chained};
 
 use crate::life::Life;
 use crate::marking::named;
-use world_model::{ClassId, Diary, Hooks, Name, Pass};
+use world_model::{Diary, Hooks, Kind, Name, Pass};
 
 /// Tells the object at an index to begin its destruction, and notes it.
 pub(crate) fn begin_at<D: Hooks>(
     names: &[Option<Name>],
-    classes: &[ClassId],
+    kinds: &[Kind],
     lives: &mut Vec<Life>,
     index: usize,
     hooks: &mut D,
     diary: &mut Diary,
 )
     requires named { IsSome (name_at names.now index) }
-    requires classes { index < length classes.now }
+    requires kinds { index < length kinds.now }
     requires lives { index < length lives.old.items }
     ensures lives { lives.new.items ≡ set lives.old.items index Begun }
     ensures entries { diary.new ≡ diary.old ++ by Collector (act.Begun (name_of names.now index) ∷ []) }
-    ensures calls { Tells (D.calls hooks.old) (D.calls hooks.new) (called.Begin (name_of names.now index) (class_at classes.now index) ∷ []) }
+    ensures calls { Tells (D.calls hooks.old) (D.calls hooks.new) (called.Begin (name_of names.now index) (class_at kinds.now index) ∷ []) }
     ensures test { SameTest (D.test hooks.old) (D.test hooks.new) }
 {
     let name = named(names, index);
-    hooks.begin(name, classes[index]);
+    hooks.begin(name, kinds[index].class);
     diary.begun(Pass::Collector, name);
     lives[index] = Life::Begun;
 }
@@ -61,23 +61,23 @@ fn next_poll(polls: u32) -> u32
 /// its destruction, and that is noted.
 pub(crate) fn ask_at<D: Hooks>(
     names: &[Option<Name>],
-    classes: &[ClassId],
+    kinds: &[Kind],
     polls: &mut Vec<u32>,
     index: usize,
     hooks: &mut D,
     diary: &mut Diary,
 ) -> bool
     requires named { IsSome (name_at names.now index) }
-    requires classes { index < length classes.now }
+    requires kinds { index < length kinds.now }
     requires polls { index < length polls.old.items }
     ensures polls { polls.new.items ≡ set polls.old.items index (next_poll (get_or polls.old.items index 0)) }
     ensures entries { diary.new ≡ diary.old ++ by Collector (asked_acts (name_of names.now index) (next_poll (get_or polls.old.items index 0)) result) }
-    ensures calls { Tells (D.calls hooks.old) (D.calls hooks.new) (asked_calls (name_of names.now index) (class_at classes.now index) (next_poll (get_or polls.old.items index 0)) result) }
-    ensures answer { D.test hooks.old (name_of names.now index) (class_at classes.now index) (next_poll (get_or polls.old.items index 0)) result }
+    ensures calls { Tells (D.calls hooks.old) (D.calls hooks.new) (asked_calls (name_of names.now index) (class_at kinds.now index) (next_poll (get_or polls.old.items index 0)) result) }
+    ensures answer { D.test hooks.old (name_of names.now index) (class_at kinds.now index) (next_poll (get_or polls.old.items index 0)) result }
     ensures test { SameTest (D.test hooks.old) (D.test hooks.new) }
 {
     let name = named(names, index);
-    let class = classes[index];
+    let class = kinds[index].class;
     let poll = next_poll(polls[index]);
     polls[index] = poll;
     let answer = hooks.ready(name, class, poll);

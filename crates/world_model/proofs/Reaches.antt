@@ -1,7 +1,7 @@
 -- The reached units are the least closed set.
 use Rattle.std.proofs.Common.{◌≡◌, refl, subst, sym, Bool, List, [], ◌∷◌, ◌++◌, true, false}
 use Rattle.world_model.specs.Types.{Name}
-use Rattle.world_model.specs.Reach.{Graph, IsUnit, Refers, Walk, IsReached}
+use Rattle.world_model.specs.Reach.{Graph, IsUnit, IsRootUnit, Refers, Walk, IsReached}
 use Rattle.world_model.specs.Laws.{IsClosed, ReachByWalks}
 
 -- a walk goes on by one unit
@@ -33,3 +33,12 @@ reached_unit g u h = walk_ends g h.root h.rest u h.unit h.walk
 -- where a test is closed, what fails it is not reached
 pub outside_closed : (g : Graph) (set : List Name → Bool) → IsClosed g set → (u : List Name) → set u ≡ false → IsReached g u → ⊥
 outside_closed g set closed u out reached = let within : set u ≡ true = (reach_by_walks_holds g).least set closed u reached in cc
+
+-- what holds of each root unit, and of each unit to which one of which it holds refers, holds of the end of a walk
+walk_passes : (g : Graph) (P : List Name → Type 0) → ((u v : List Name) → IsUnit g u → IsUnit g v → P u → Refers g u v → P v) → (u : List Name) (rest : List (List Name)) (v : List Name) → IsUnit g u → P u → Walk g u rest v → P v
+walk_passes g P passes u [] v unit start walk = subst P walk start
+walk_passes g P passes u (next ∷ rest) v unit start walk = walk_passes g P passes next rest v walk.0 (passes u next unit walk.0 start walk.1) walk.2
+
+-- and so of each unit that is reached
+pub reached_passes : (g : Graph) (P : List Name → Type 0) → ((u : List Name) → IsUnit g u → IsRootUnit g u → P u) → ((u v : List Name) → IsUnit g u → IsUnit g v → P u → Refers g u v → P v) → (u : List Name) → IsReached g u → P u
+reached_passes g P roots passes u reached = walk_passes g P passes reached.root reached.rest u reached.unit (roots reached.root reached.unit reached.is_root) reached.walk

@@ -1,7 +1,7 @@
 -- The words of an engine's contract. An engine means two things: its history, and for each lane the references that its open frame holds.
-use Rattle.std.specs.Prelude.{◌≢◌, ◌<◌, ◌+◌, ℕ, Bool, true, false, not, List, length, Result, Ok, Err, IsTrue}
+use Rattle.std.specs.Prelude.{◌≢◌, ◌<◌, ◌+◌, ℕ, Bool, true, false, not, List, length, Option, option_map, Result, Ok, Err, IsTrue}
 use Rattle.std.specs.List.{list_any}
-use Rattle.world_model.specs.Types.{Ref, Kind, Pass, Lane, Marker, CreateErr, Act, Entry}
+use Rattle.world_model.specs.Types.{Name, Ref, Kind, Pass, Lane, Marker, CreateErr, Act, Entry}
 use Rattle.world_model.specs.Types.act
 use Rattle.world_model.specs.Types.create
 use Rattle.world_model.specs.Sizes.{Sizes}
@@ -32,6 +32,10 @@ KeepsHeld old new = (lane : ℕ) (r : Ref) → old lane r → new lane r
 -- what the other lanes held is held
 abbrev pub KeepsOthers : ℕ → Holdings → Holdings → Type 0
 KeepsOthers lane old new = (other : ℕ) (r : Ref) → other ≢ lane → old other r → new other r
+
+-- the name behind a reference, if there is one
+abbrev pub name_of : Option Ref → Option Name
+name_of to = option_map (λ r. r.name) to
 
 -- the act by which so many objects are refused
 abbrev pub act_of_refusal : ℕ → CreateErr → Act

@@ -1,17 +1,17 @@
 //! What every engine does, said by its history.
-ghost use Rattle.std.specs.Prelude.{◌≡◌, ◌+◌, ◌<◌, ◌≤◌, ◌⊎◌, ℕ, List, All, IsTrue, OnOk, OnErr, length, map, take, drop, true, false};
+ghost use Rattle.std.specs.Prelude.{◌≡◌, ◌+◌, ◌-◌, ◌<◌, ◌≤◌, ◌⊎◌, ℕ, List, All, IfSome, IsTrue, OnOk, OnErr, Some, length, map, take, drop, true, false};
 ghost use Rattle.std.specs.List.{list_all};
 ghost use Rattle.world_model.specs.Types.{Ref, Entry, Lane, Marker, Collector};
 ghost use Rattle.world_model.specs.Types.act;
 ghost use Rattle.world_model.specs.Types.sweep;
 ghost use Rattle.world_model.specs.NameLists.{names_from};
-ghost use Rattle.world_model.specs.World.{is_open, made, left_of};
+ghost use Rattle.world_model.specs.World.{is_open, made, kind_of, refs_of, plain_of, left_of};
 ghost use Rattle.world_model.specs.State.{Holds};
 ghost use Rattle.world_model.specs.LaneSteps.{is_lawful};
 ghost use Rattle.world_model.specs.Histories.{state_of, after};
 ghost use Rattle.world_model.specs.Calls.{Appends};
 ghost use Rattle.world_model.specs.Hooks.{SameTest, AreCalled, MeetTest};
-ghost use Rattle.world_model.specs.Engines.{IsInFrame, no_slice, KeepsHeld, KeepsOthers, act_of_create};
+ghost use Rattle.world_model.specs.Engines.{IsInFrame, no_slice, KeepsHeld, KeepsOthers, act_of_create, name_of};
 
 use crate::hooks::Hooks;
 use crate::kind::Kind;
@@ -23,10 +23,10 @@ use crate::shape::Shape;
 /// A world of objects, whichever way it is kept.
 ///
 /// An engine means two things: its history, which is legal after every call, and for each lane the
-/// references that its open frame holds. Every call but `phase` and `left` adds to the history the
-/// entries of that call alone, the last of which carries its answer; so the conditions under which
-/// an entry may stand there are the causes of the answer. What a lane holds it holds until it
-/// closes its frame.
+/// references that its open frame holds. Every call but `kind_of`, `phase` and `left` adds to the
+/// history the entries of that call alone, the last of which carries its answer; so the conditions
+/// under which an entry may stand there are the causes of the answer. What a lane holds it holds
+/// until it closes its frame.
 pub trait Engine<S: Shape> {
     /// All that was done, the first entry first.
     ghost history: { Self → List Entry };
@@ -63,6 +63,61 @@ pub trait Engine<S: Shape> {
         ensures names { OnOk result (map (λ r. r.name) out.new ≡ names_from lane (made (after (history self.old)) lane + 1) kinds.now) }
         ensures given { OnOk result (All (holds self.new lane) out.new) }
         ensures refused { OnErr result (out.new ≡ out.old) }
+        ensures held { KeepsHeld (holds self.old) (holds self.new) };
+
+    /// The kind of an object: its class, the numbers of its reference and plain slots, and when it is
+    /// ready to be finished.
+    fn kind_of(&mut self, lane: u32, at: Ref) -> Kind
+        requires frame { IsInFrame S.sizes (history self.old) lane }
+        requires at { holds self.old lane at }
+        ensures kind { kind_of (after (history self.old)) at.name ≡ Some result }
+        ensures same { history self.new ≡ history self.old }
+        ensures held { KeepsHeld (holds self.old) (holds self.new) };
+
+    /// Reads a reference cell of an object. `slot` is below the number of its kind's reference slots.
+    /// The object that is found is held from then on.
+    fn read_ref(&mut self, lane: u32, at: Ref, slot: u32) -> Option<Ref>
+        requires frame { IsInFrame S.sizes (history self.old) lane }
+        requires at { holds self.old lane at }
+        requires slot { slot < refs_of (after (history self.old)) at.name }
+        ensures entries { Appends S.sizes (history self.old) (history self.new) (Lane lane) (act.ReadRef at.name slot (name_of result)) }
+        ensures given { IfSome result (holds self.new lane) }
+        ensures held { KeepsHeld (holds self.old) (holds self.new) };
+
+    /// Writes a reference cell of an object, and tells what stood there, which is held from then on.
+    /// `slot` is below the number of its kind's reference slots.
+    ///
+    /// While a collection marks, the unit of `to` is marked before it is stored, unless it is marked
+    /// already. This is the insertion barrier of Dijkstra, Lamport, Martin, Scholten and Steffens
+    /// (On-the-fly garbage collection: an exercise in cooperation, 1978): a unit that was scanned
+    /// never comes to refer to one that is not marked.
+    fn write_ref(&mut self, lane: u32, at: Ref, slot: u32, to: Option<Ref>) -> Option<Ref>
+        requires frame { IsInFrame S.sizes (history self.old) lane }
+        requires at { holds self.old lane at }
+        requires slot { slot < refs_of (after (history self.old)) at.name }
+        requires to { IfSome to (holds self.old lane) }
+        ensures entries { Appends S.sizes (history self.old) (history self.new) (Lane lane) (act.WriteRef at.name slot (name_of to) (name_of result)) }
+        ensures given { IfSome result (holds self.new lane) }
+        ensures held { KeepsHeld (holds self.old) (holds self.new) };
+
+    /// Reads a plain cell of an object, a number that no collection looks at. The plain slots of an
+    /// object are the last ones of the shape's, as many as its kind says.
+    fn read_plain(&mut self, lane: u32, at: Ref, slot: u32) -> u64
+        requires frame { IsInFrame S.sizes (history self.old) lane }
+        requires at { holds self.old lane at }
+        requires first { S.sizes.slots - plain_of (after (history self.old)) at.name ≤ slot }
+        requires last { slot < S.sizes.slots }
+        ensures entries { Appends S.sizes (history self.old) (history self.new) (Lane lane) (act.ReadPlain at.name slot result) }
+        ensures held { KeepsHeld (holds self.old) (holds self.new) };
+
+    /// Writes a plain cell of an object, and tells what stood there. The plain slots of an object are
+    /// the last ones of the shape's, as many as its kind says.
+    fn write_plain(&mut self, lane: u32, at: Ref, slot: u32, value: u64) -> u64
+        requires frame { IsInFrame S.sizes (history self.old) lane }
+        requires at { holds self.old lane at }
+        requires first { S.sizes.slots - plain_of (after (history self.old)) at.name ≤ slot }
+        requires last { slot < S.sizes.slots }
+        ensures entries { Appends S.sizes (history self.old) (history self.new) (Lane lane) (act.WritePlain at.name slot value result) }
         ensures held { KeepsHeld (holds self.old) (holds self.new) };
 
     /// Adds an object to the root set, or takes it out of it, and tells whether it was there.

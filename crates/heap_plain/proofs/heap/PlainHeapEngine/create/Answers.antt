@@ -1,4 +1,4 @@
-use Rattle.std.proofs.Common.{◌≡◌, ◌+◌, ◌-◌, refl, ap, ◌∙◌, arith}
+use Rattle.std.proofs.Common.{◌≡◌, ◌+◌, ◌-◌, refl, ap, ◌∙◌, arith, length}
 use Rattle.world_model.specs.World.{made}
 use Rattle.world_model.specs.Histories.{after}
 use Rattle.heap_plain.specs.Types.{Ref}
@@ -10,6 +10,13 @@ use Rattle.heap_plain.proofs.Refusals.{refuses, refuses_held, refusal_alone}
 use Rattle.heap_plain.proofs.CreateSteps.{Creation, creates, still_held, new_held}
 use Rattle.heap_plain.proofs.heap.PlainHeapEngine.create.Given.{Over}
 use Rattle.heap_plain.proofs.heap.PlainHeapEngine.create.Goals as goal
+
+pub overflow_sub-NAMES : goal.overflow_sub-NAMES
+overflow_sub-NAMES g c =
+    let frame = rw (← c.self.view_is) at c.requires.frame in
+    let s = c.self.invariant.shows in
+    let is : c.index-made.result.now ≡ made (after c.self.inside.diary) c.args.lane = c.index-made.ensures ∙ s.names.counts.each c.args.lane c.index-made.result.now frame.in_range in
+    omega (arith, s.names.few_names c.args.lane frame.in_range, c.NAMES.ensures, g.S.Shape.constants.names)
 
 pub invariant_of-self : goal.invariant_of-self
 invariant_of-self g c =
@@ -50,22 +57,44 @@ classify-requires g c =
     let frame = rw (← c.self.view_is) at c.requires.frame in
     record {
       stack = pops c.self.invariant.shows.free _ _ _ _ _ _ frame.in_range c.index-spare.ensures
-          (c.QUOTA.ensures ∙ g.S.Shape.constants.quota) c.self.invariant.shows.classes.len c.deref-4.ensures.value c.in_default.ensures.1;
+          (c.QUOTA.ensures ∙ g.S.Shape.constants.quota) c.self.invariant.shows.kinds.len c.deref-4.ensures.value c.in_default.ensures.1;
     }
+
+pub fill_rows-requires-clause-stack : goal.fill_rows-requires-clause-stack
+fill_rows-requires-clause-stack g c =
+    let frame = rw (← c.self.view_is) at c.requires.frame in
+    pops c.self.invariant.shows.free _ _ _ _ _ _ frame.in_range c.index-spare.ensures
+    (c.QUOTA.ensures ∙ g.S.Shape.constants.quota) (ap (λ xs. length xs) c.deref-5.ensures.value ∙ c.self.invariant.shows.free.free_len) c.deref-5.ensures.value c.in_default.ensures.1
+
+pub fill_rows-requires-clause-rows : goal.fill_rows-requires-clause-rows
+fill_rows-requires-clause-rows g c =
+    let s = c.self.invariant.shows in
+    rw (c.deref-5.ensures.value, s.free.free_len, s.cells.targets_len, c.SLOTS-slots.ensures, g.S.Shape.constants.slots) (omega arith)
+
+pub fill_rows-requires-2-clause-stack : goal.fill_rows-requires-2-clause-stack
+fill_rows-requires-2-clause-stack g c =
+    let frame = rw (← c.self.view_is) at c.requires.frame in
+    pops c.self.invariant.shows.free _ _ _ _ _ _ frame.in_range c.index-spare.ensures
+    (c.QUOTA.ensures ∙ g.S.Shape.constants.quota) (ap (λ xs. length xs) c.deref-6.ensures.value ∙ c.self.invariant.shows.free.free_len) c.deref-6.ensures.value c.in_default.ensures.1
+
+pub fill_rows-requires-2-clause-rows : goal.fill_rows-requires-2-clause-rows
+fill_rows-requires-2-clause-rows g c =
+    let s = c.self.invariant.shows in
+    rw (c.deref-6.ensures.value, s.free.free_len, s.cells.plains_len, c.SLOTS-slots.ensures, g.S.Shape.constants.slots) (omega arith)
 
 pub fill_popped-requires-2 : goal.fill_popped-requires-2
 fill_popped-requires-2 g c =
     let frame = rw (← c.self.view_is) at c.requires.frame in
     record {
       stack = pops c.self.invariant.shows.free _ _ _ _ _ _ frame.in_range c.index-spare.ensures
-          (c.QUOTA.ensures ∙ g.S.Shape.constants.quota) c.self.invariant.shows.units.lives_len c.deref-5.ensures.value c.in_default.ensures.1;
+          (c.QUOTA.ensures ∙ g.S.Shape.constants.quota) c.self.invariant.shows.units.lives_len c.deref-7.ensures.value c.in_default.ensures.1;
     }
 
 pub link-requires-clause-stack : goal.link-requires-clause-stack
 link-requires-clause-stack g c =
     let frame = rw (← c.self.view_is) at c.requires.frame in
     pops c.self.invariant.shows.free _ _ _ _ _ _ frame.in_range c.index-spare.ensures
-    (c.QUOTA.ensures ∙ g.S.Shape.constants.quota) c.self.invariant.shows.units.links_len c.deref-6.ensures.value c.in_default.ensures.1
+    (c.QUOTA.ensures ∙ g.S.Shape.constants.quota) c.self.invariant.shows.units.links_len c.deref-8.ensures.value c.in_default.ensures.1
 
 pub index_mut-requires : goal.index_mut-requires
 index_mut-requires g c =
@@ -85,7 +114,7 @@ pub answer-requires-clause-room : goal.answer-requires-clause-room
 answer-requires-clause-room g c =
     let frame = rw (← c.self.view_is) at c.requires.frame in
     (pops c.self.invariant.shows.free _ _ _ _ _ _ frame.in_range c.index-spare.ensures
-    (c.QUOTA.ensures ∙ g.S.Shape.constants.quota) refl c.deref-7.ensures.value c.in_default.ensures.1).room
+    (c.QUOTA.ensures ∙ g.S.Shape.constants.quota) refl c.deref-9.ensures.value c.in_default.ensures.1).room
 
 -- what the calls before the last one have written
 creation : (g : Over) (c : goal.After-out-1 g) → Creation g.S.Shape.sizes (record {
@@ -93,7 +122,9 @@ creation : (g : Over) (c : goal.After-out-1 g) → Creation g.S.Shape.sizes (rec
   firsts = c.self.inside.firsts.items;
   sizes = c.self.inside.sizes.items;
   next = c.self.inside.next.items;
-  classes = c.self.inside.classes.items;
+  kinds = c.self.inside.kinds.items;
+  targets = c.self.inside.targets.items;
+  plains = c.self.inside.plains.items;
   lives = c.self.inside.lives.items;
   roots = c.self.inside.roots.items;
   marked = c.self.inside.marked.items;
@@ -115,7 +146,7 @@ creation : (g : Over) (c : goal.After-out-1 g) → Creation g.S.Shape.sizes (rec
   polls = c.self.inside.polls.items;
   waiting = c.self.inside.waiting.items;
   done = c.self.inside.done;
-}) c.self.inside.diary c.args.lane c.index-made.result.now c.args.kinds.now c.place.new.names.items c.fill_popped.new.items.items c.link.new.next.items c.classify.new.classes.items c.fill_popped-2.new.items.items
+}) c.self.inside.diary c.args.lane c.index-made.result.now c.args.kinds.now c.place.new.names.items c.fill_popped.new.items.items c.link.new.next.items c.classify.new.stored.items c.fill_rows.new.cells.items c.fill_rows-2.new.cells.items c.fill_popped-2.new.items.items
 creation g c =
     let frame = rw (← c.self.view_is) at c.requires.frame in
     let s = c.self.invariant.shows in
@@ -134,9 +165,11 @@ creation g c =
       room = omega (arith, d.1, now);
       by_name = rw (c.deref-2.ensures.value, c.QUOTA.ensures, k.quota, now) at c.place.ensures;
       by_first = rw (c.popped-head.ensures, c.deref.ensures.value, c.deref-3.ensures.value, c.QUOTA.ensures, k.quota, now) at c.fill_popped.ensures;
-      by_class = rw (c.deref-4.ensures.value, c.QUOTA.ensures, k.quota, now) at c.classify.ensures;
-      by_life = rw (c.deref-5.ensures.value, c.QUOTA.ensures, k.quota, now) at c.fill_popped-2.ensures;
-      by_next = rw (c.deref-6.ensures.value, c.QUOTA.ensures, k.quota, now) at c.link.ensures;
+      by_kind = rw (c.deref-4.ensures.value, c.QUOTA.ensures, k.quota, now) at c.classify.ensures;
+      by_target = rw (c.deref-5.ensures.value, c.QUOTA.ensures, k.quota, c.SLOTS-slots.ensures, k.slots, now) at c.fill_rows.ensures;
+      by_plain = rw (c.deref-6.ensures.value, c.QUOTA.ensures, k.quota, c.SLOTS-slots.ensures, k.slots, now) at c.fill_rows-2.ensures;
+      by_life = rw (c.deref-7.ensures.value, c.QUOTA.ensures, k.quota, now) at c.fill_popped-2.ensures;
+      by_next = rw (c.deref-8.ensures.value, c.QUOTA.ensures, k.quota, now) at c.link.ensures;
     }
 
 pub invariant_of-self-2 : goal.invariant_of-self-2
@@ -156,7 +189,7 @@ pub returns-clause-given : goal.returns-clause-given
 returns-clause-given g c = λ i other below.
     let now = spare_read c.self.invariant.shows.free _ _ (creation g c).lane c.index-spare.ensures in
     let there = from_start c.answer.ensures i other (omega (arith, c.answer.ensures.len)) in
-    rw (c.make.ensures, there, c.deref-7.ensures.value, c.QUOTA.ensures, g.S.Shape.constants.quota, now) (new_held (creation g c) i (omega (arith, c.answer.ensures.len, c.requires.room)))
+    rw (c.make.ensures, there, c.deref-9.ensures.value, c.QUOTA.ensures, g.S.Shape.constants.quota, now) (new_held (creation g c) i (omega (arith, c.answer.ensures.len, c.requires.room)))
 
 pub returns-clause-held : goal.returns-clause-held
 returns-clause-held g c = rw (← c.self.view_is, c.make.ensures) (still_held (creation g c))

@@ -33,7 +33,7 @@ begin_at-requires g c =
     let below = begin_below i c.if-self-gt0.true c.if-self.true in
     rw (c.deref.ensures.value, c.deref-then-self.ensures.value, x) (record {
       named = begin_named i c.if-self-gt0.true c.if-self.true;
-      classes = omega (arith, below, s.classes.len);
+      kinds = omega (arith, below, s.kinds.len);
       lives = omega (arith, below, s.units.lives_len);
     })
 
@@ -104,7 +104,7 @@ ask_at-agreed-requires g c =
     let below = ask_below i c.if-self-gt0.true c.if-self.false c.in_default-done.is in
     rw (c.deref-in-loop-steps.ensures.value, c.deref-in-loop-steps-2.ensures.value, y, c.turned-end.ensures) (record {
       named = ask_named i c.if-self-gt0.true c.if-self.false c.in_default-done.is;
-      classes = omega (arith, below, s.classes.len);
+      kinds = omega (arith, below, s.kinds.len);
       polls = omega (arith, below, s.removed.polls_len);
     })
 

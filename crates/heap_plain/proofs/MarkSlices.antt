@@ -1,0 +1,459 @@
+-- A slice of marking.
+use Rattle.std.proofs.Common.{◌≡◌, ◌≢◌, ℕ, ◌+◌, ◌<◌, ◌≤◌, ◌||◌, not, refl, sym, subst, ap, ◌∙◌, inl, inr, zero, suc, arith, Bool, true, false, List, [], ◌∷◌, ◌++◌, length, length-append, get_or, map, take, drop, ◌⊎◌, filter, append_assoc, Option, Some, None, IsSome, is_some}
+use Rattle.std.specs.List.{list_any, list_all}
+use Rattle.std.proofs.Math.Logic.{dite}
+use Rattle.std.proofs.Math.Decide.{ℕ_discrete}
+use Rattle.std.proofs.lemmas.Bool.{and_from}
+use Rattle.std.proofs.lemmas.List.{drop-append-le, drop_all, drop_more, length-take-le, length-drop, get_or-take}
+use Rattle.world_model.specs.Sizes.{Sizes, item_count}
+use Rattle.world_model.specs.NameLists.{same_name, same_pass, has}
+use Rattle.world_model.specs.World.{World, is_open}
+use Rattle.world_model.specs.State.{State, Marks, Slicing, Frame, is_grey, grey_in, grey_units, beginning}
+use Rattle.world_model.specs.Reach.{graph, Refers}
+use Rattle.world_model.specs.Next.{next, run}
+use Rattle.world_model.specs.MarkerSteps.{member_count, WasWithin, MayStop}
+use Rattle.world_model.specs.Histories.{MayBy, LegalFrom, Legal, after, state_of}
+use Rattle.world_model.specs.Calls.{by, is_mark_note, Appends}
+use Rattle.world_model.specs.Engines.{no_slice}
+use Rattle.world_model.proofs.ListFacts.{Among, and_true, or_right}
+use Rattle.world_model.proofs.NameFacts.{set_at_same, same_name_true, same_name_refl}
+use Rattle.world_model.proofs.Units.{AreApart, units_apart}
+use Rattle.world_model.proofs.Joins.{legal_join, legal_split}
+use Rattle.heap_plain.specs.Types.{Name, Ref, Kind, Pass, Marker, Phase, Marking, MarkStop, Marked, Act, Entry}
+use Rattle.heap_plain.specs.Types.act
+use Rattle.heap_plain.specs.Types.stop
+use Rattle.heap_plain.specs.declared.life.Life.TheVariants.{Live}
+use Rattle.heap_plain.specs.Parts.{Parts, Shown, Holds, name_at, life_at, first_at, next_at, kind_at, target_at}
+use Rattle.heap_plain.specs.Listing.{chained}
+use Rattle.heap_plain.specs.Notes.{names_at, all_set, StopsBy}
+use Rattle.heap_plain.specs.Shading.{InUnit, IsWorklist, Shades}
+use Rattle.heap_plain.specs.Sections.{Distinct, StandsAt, LivesAt, AreLinked, WorkShows, MarksShow, TargetsMarked, RootsMarked, QueueShows, pushed_of, grey_of}
+use Rattle.heap_plain.specs.Plain.{Shows, IsPlain, as_in, Sliced, IsSlicing}
+use Rattle.heap_plain.proofs.WorldFacts.{same_pass_refl, none_out, state_more, among_left, among_right}
+use Rattle.heap_plain.proofs.Noting.{by-append, length-all_set}
+use Rattle.heap_plain.proofs.Shadings.{all_still}
+use Rattle.heap_plain.proofs.BeginSteps.{set_among}
+use Rattle.heap_plain.proofs.Entries.{plain_more, holds_more}
+use Rattle.heap_plain.proofs.Quiet.{quiet_shows}
+use Rattle.heap_plain.proofs.Standing.{member_at, name_below, bit_below, live_used}
+use Rattle.heap_plain.proofs.Listings.{chained_next, linked_at}
+use Rattle.heap_plain.proofs.Cells.{aims_target, aims_name, cell_ref, cell_below}
+use Rattle.heap_plain.proofs.MarkSteps.{distinct_drop}
+use Rattle.heap_plain.proofs.SliceSteps.{linked_place, count_cons, filter_none, no_marker, not_true, marking_or_not, grey_empty}
+use Rattle.heap_plain.proofs.UnitSteps.{AtUnit, UnitRun, unit_run}
+
+-- ---- the slice opens
+
+module _ (z : Sizes) (p : Parts) (h : List Entry) (marker budget : ℕ) (was : IsPlain z p h) (range : marker < z.markers) (alone : no_slice (after h) ≡ true) where
+  abbrev open_entry : Entry
+  open_entry = record { pass = Marker marker; act = act.SliceOpen }
+
+  abbrev s1 : State
+  s1 = next (state_of h) open_entry
+
+  not_open : list_any (same_pass (Marker marker)) (after h).opened ≡ false
+  not_open = no_marker (after h).opened marker (not_true _ alone)
+
+  empty : (s1.slices marker).scanned ≡ []
+  empty = ap (λ (x : Slicing). x.scanned) (set_at_same (state_of h).slices marker _)
+
+  sliced_start : Sliced z (state_of h) marker budget 0 p s1
+  sliced_start = record {
+    world = refl;
+    frames = refl;
+    earlier = [];
+    moments = ap (λ (x : Slicing). s1.world ∷ x.moments) (set_at_same (state_of h).slices marker _);
+    total_is = sym (ap (λ (us : List (List Name)). member_count us) empty);
+    within = subst (λ (us : List (List Name)). WasWithin budget us) (sym empty) tt;
+    shows = quiet_shows z p (state_of h) _ _ _ was.shows.none_agreed refl was.shows.no_steps was.shows;
+  }
+
+  pub mark_starts : IsSlicing z (record { history = h; names = p.names }) marker budget 0 p (h ++ open_entry ∷ [])
+  mark_starts = record {
+    closed = not_open;
+    notes = [];
+    grown = refl;
+    only = refl;
+    legal = legal_join z beginning h (open_entry ∷ []) was.legal (record { in_range = range; slice = not_open; may = tt }, tt);
+    sliced = subst (λ (s : State). Sliced z (state_of h) marker budget 0 p s) (sym (state_more h (open_entry ∷ []))) sliced_start;
+    held = λ lane r held. holds_more h (open_entry ∷ []) p.names lane r (λ e. e) held;
+  }
+
+-- ---- a unit is scanned
+
+-- a member of a unit, along its links
+linked_member : (names : List (Option Name)) (links : List ℕ) (i : ℕ) (u : List Name) → AreLinked names links i u → (k : ℕ) → k < length u → (n : Name) × (name_at names (chained links i k) ≡ Some n) × (has u n ≡ true)
+linked_member names links i [] h k b = absurd (omega arith)
+linked_member names links i (n ∷ u) h zero b = (n, h.0, let t = same_name_refl n in rw t refl)
+linked_member names links i (n ∷ u) h (suc k) b =
+    let r = linked_member names links (next_at links i) u h.1 k (omega arith) in
+    (r.0, ap (name_at names) (chained_next links i k) ∙ r.1, or_right (same_name r.0 n) (has u r.0) r.2)
+
+module _ {z : Sizes} {old : Shown} {marker budget total : ℕ} {p : Parts} {history : List Entry} (i : IsSlicing z old marker budget total p history) (range : marker < z.markers) (more : p.scanned < p.pushed) where
+  abbrev s : State
+  s = state_of history
+
+  abbrev w : World
+  w = after old.history
+
+  abbrev k : Shows z p (as_in (state_of old.history) s)
+  k = i.sliced.shows
+
+  apart : AreApart w.kinds w.units
+  apart = units_apart z old.history (legal_split z beginning old.history (by (Marker marker) (act.SliceOpen ∷ i.notes)) (subst (λ (xs : List Entry). Legal z xs) i.grown i.legal)).0
+
+  marking : p.phase ≡ Marking
+  marking = go (marking_or_not p.phase)
+    where
+      go : (p.phase ≡ Marking) ⊎ (p.phase ≢ Marking) → p.phase ≡ Marking
+      go (inl e) = e
+      go (inr ne) = absurd (let t = k.idle ne in omega arith)
+
+  abbrev head : ℕ
+  head = get_or p.work p.scanned 0
+
+  abbrev rest : List ℕ
+  rest = drop (p.scanned + 1) (take p.pushed p.work)
+
+  used : length (take p.pushed p.work) ≡ p.pushed
+  used = length-take-le p.pushed p.work (omega (arith, k.work.few, k.work.work_len))
+
+  grey_split : grey_of p.work p.scanned p.pushed ≡ head ∷ rest
+  grey_split = drop_more (take p.pushed p.work) p.scanned 0 (omega (arith, used)) ∙ ap (λ (x : ℕ). x ∷ rest) (get_or-take p.pushed p.work p.scanned 0 more)
+
+  abbrev m : MarksShow p.names p.firsts p.sizes p.next p.lives w.units p.marked (pushed_of p.work p.pushed) (grey_of p.work p.scanned p.pushed) s.marks.kept s.marks.fresh s.marks.scanned
+  m = k.marks marking
+
+  own : (u : List Name) × StandsAt p.names p.firsts p.sizes p.next p.lives w.units head u
+  own = let r = m.grey_units head (subst (λ (xs : List ℕ). Among xs head) (sym grey_split) (inl refl)) in (r.0, r.1)
+
+  abbrev u : List Name
+  u = own.0
+
+  abbrev stands : StandsAt p.names p.firsts p.sizes p.next p.lives w.units head u
+  stands = own.1
+
+  abbrev size : ℕ
+  size = get_or p.sizes head 0
+
+  abbrev At : ℕ → Type 0
+  At = InUnit p.kinds z.slots p.targets p.next head size
+
+  pub head_below : head < item_count z
+  head_below = k.work.entries p.scanned more
+
+  first : (n : Name) × LivesAt p.names p.lives head n × (has u n ≡ true)
+  first = member_at k.units head u stands
+
+  pub head_named : IsSome (name_at p.names head)
+  head_named = ap (λ (o : Option Name). is_some o) first.1.name
+
+  -- the object at an index of the unit
+  member_of : (j : ℕ) → j < size → (n : Name) × LivesAt p.names p.lives (chained p.next head j) n × (has u n ≡ true)
+  member_of j b =
+      let r = linked_member p.names p.next head u stands.linked j (omega (arith, stands.size)) in
+      let at = stands.inside r.0 r.2 in
+      (r.0, subst (λ (x : ℕ). LivesAt p.names p.lives x r.0) (k.names.alone at.0 (chained p.next head j) r.0 at.1.name r.1) at.1, r.2)
+
+  pub chain_below : (j : ℕ) → j < size → chained p.next head j < length p.next
+  chain_below j b = let r = member_of j b in omega (arith, name_below p.names (chained p.next head j) r.0 r.1.name, k.names.items, k.units.links_len)
+
+  leads : (t : ℕ) → At t → (v : Name) × LivesAt p.names p.lives t v × (from : Name) × (slot : ℕ) × (w.cell from slot ≡ Some v) × (has u from ≡ true)
+  leads t (j, slot, b, low, at) =
+      let r = member_of j b in
+      let a = k.cells.aims (chained p.next head j) r.0 slot r.1 (omega (arith, k.kinds.fit (chained p.next head j))) in
+      let there = aims_target (target_at z.slots p.targets (chained p.next head j) slot) (w.cell r.0 slot) t a at in
+      (there.0, there.2, r.0, slot, there.1, r.2)
+
+  pub lead_named : (t : ℕ) → At t → IsSome (name_at p.names (first_at p.firsts t))
+  lead_named t a =
+      let r = leads t a in
+      let unit = k.units.each t r.1.life in
+      let member = member_at k.units (first_at p.firsts t) unit.0 unit.1 in
+      ap (λ (o : Option Name). is_some o) member.1.name
+
+  -- a cell of a member is one of those that are looked at
+  looked_at : (x : ℕ) (n : Name) (slot t : ℕ) (v : Name) → LivesAt p.names p.lives x n → has u n ≡ true → w.cell n slot ≡ Some v → target_at z.slots p.targets x slot ≡ Some t → At t
+  looked_at x n slot t v there e cell at =
+      let place = linked_place p.names p.next head u n stands.linked e in
+      let same : x ≡ chained p.next head place.0 = k.names.alone x (chained p.next head place.0) n there.name place.2 in
+      let low = cell_ref k.cells x n slot v there cell in
+      (place.0, slot, omega (arith, stands.size, place.1), subst (λ (y : ℕ). slot < (kind_at p.kinds y).refs) same low, ap (λ (y : ℕ). target_at z.slots p.targets y slot) (sym same) ∙ at)
+
+  reads : (v : List Name) → Refers (graph w) u v → (t : ℕ) × At t × (n : Name) × LivesAt p.names p.lives t n × (has v n ≡ true)
+  reads v refers =
+      let at = stands.inside refers.from refers.member in
+      let low = cell_below k.kinds k.cells at.0 refers.from refers.slot refers.to at.1 refers.cell in
+      let there = aims_name (target_at z.slots p.targets at.0 refers.slot) (w.cell refers.from refers.slot) refers.to (k.cells.aims at.0 refers.from refers.slot at.1 low) refers.cell in
+      (there.0, looked_at at.0 refers.from refers.slot there.0 refers.to at.1 refers.member refers.cell there.1, refers.to, there.2, refers.target)
+
+  pub worklist : IsWorklist p.marked p.work p.pushed
+  worklist = record { distinct = m.distinct; set = m.listed_marked; room = k.work.marked_len ∙ sym k.work.work_len; used = used }
+
+  module _ {marked' : List Bool} {work' : List ℕ} {pushed' : ℕ} {mid : List Entry} (less : total < budget) (n : Name) (named : name_at p.names head ≡ Some n) (sh : Shades p.names p.firsts At marker p.marked marked' p.work work' p.pushed pushed' history mid) where
+    abbrev heads : List ℕ
+    heads = sh.heads
+
+    member : has u n ≡ true
+    member = stands.whole head n (record { name = named; life = first.1.life }) stands.own
+
+    abbrev w1 : World
+    w1 = record w { opened = Marker marker ∷ w.opened }
+
+    -- the state, with its world written out
+    abbrev t0 : State
+    t0 = record { world = w1; marks = s.marks; frames = (state_of old.history).frames; slices = s.slices; collector = s.collector }
+
+    same_state : t0 ≡ s
+    same_state = λ t. record { world = sym i.sliced.world t; marks = s.marks; frames = sym i.sliced.frames t; slices = s.slices; collector = s.collector }
+
+    at_unit : AtUnit z p.names p.made p.firsts p.sizes p.next p.lives w1 marker u head n At
+    at_unit = record {
+      range = range;
+      apart = apart;
+      names_show = k.names;
+      units_show = k.units;
+      marking = sym k.phase ∙ marking;
+      opened = let e = same_pass_refl (Marker marker) in rw e refl;
+      stands = stands;
+      member = member;
+      leads = leads;
+      reads = reads;
+    }
+
+    grey_now : grey_of work' p.scanned pushed' ≡ head ∷ (rest ++ heads)
+    grey_now =
+        ap (λ (xs : List ℕ). drop p.scanned xs) sh.listed
+        ∙ drop-append-le p.scanned (take p.pushed p.work) heads (omega (arith, used))
+        ∙ ap (λ (xs : List ℕ). xs ++ heads) grey_split
+
+    grey_new : grey_of work' (p.scanned + 1) pushed' ≡ rest ++ heads
+    grey_new = ap (λ (xs : List ℕ). drop (p.scanned + 1) xs) sh.listed ∙ drop-append-le (p.scanned + 1) (take p.pushed p.work) heads (omega (arith, used))
+
+    abbrev acts : List Act
+    acts = map act.Kept (names_at p.names heads) ++ act.Scanned n ∷ []
+
+    abbrev es : List Entry
+    es = by (Marker marker) acts
+
+    ran : UnitRun z p.names p.firsts p.sizes p.next p.lives (all_set p.marked heads) (pushed_of p.work p.pushed ++ heads) (rest ++ heads) marker u t0 acts
+    ran = unit_run z p.names p.made p.firsts p.sizes p.next p.lives t0 i.sliced.earlier marker u head n At p.marked (pushed_of p.work p.pushed) rest heads at_unit
+        (i.sliced.moments ∙ ap (λ (x : World). x ∷ i.sliced.earlier) i.sliced.world) k.work.marked_len
+        (subst (λ (xs : List ℕ). Distinct xs) grey_now (distinct_drop p.scanned (take pushed' work') sh.fits.distinct))
+        (subst (λ (xs : List ℕ). MarksShow p.names p.firsts p.sizes p.next p.lives w.units p.marked (pushed_of p.work p.pushed) xs s.marks.kept s.marks.fresh s.marks.scanned) grey_split m)
+        sh.can (λ t a. sym (ap (λ (xs : List Bool). get_or xs (first_at p.firsts t) false) sh.bits) ∙ sh.each t a)
+
+    still : (x : ℕ) → get_or p.marked x false ≡ true → get_or marked' x false ≡ true
+    still x e = ap (λ (xs : List Bool). get_or xs x false) sh.bits ∙ all_still p.marked heads x e
+
+    pushed_is : pushed' ≡ p.pushed + length heads
+    pushed_is = sym sh.fits.used ∙ ap (λ (xs : List ℕ). length xs) sh.listed ∙ length-append (take p.pushed p.work) heads ∙ ap (λ (x : ℕ). x + length heads) used
+
+    marked_len : length marked' ≡ item_count z
+    marked_len = ap (λ (xs : List Bool). length xs) sh.bits ∙ length-all_set p.marked heads ∙ k.work.marked_len
+
+    work_new : WorkShows z marked' work' (p.scanned + 1) pushed'
+    work_new = record {
+      marked_len = marked_len;
+      work_len = sym sh.fits.room ∙ marked_len;
+      order = omega (arith, pushed_is);
+      few = let t = length-take_most pushed' work' in omega (arith, sh.fits.used, sh.fits.room, marked_len);
+      entries = λ j b.
+          let a = get_or_within (take pushed' work') j (omega (arith, sh.fits.used)) in
+          let same = get_or-take pushed' work' j 0 b in
+          let below = bit_below marked' (get_or (take pushed' work') j 0) (sh.fits.set (get_or (take pushed' work') j 0) a) in
+          omega (arith, marked_len);
+    }
+      where
+        length-take_most : (n : ℕ) (xs : List ℕ) → length (take n xs) ≤ length xs
+        length-take_most zero xs = omega arith
+        length-take_most (suc n) [] = omega arith
+        length-take_most (suc n) (x ∷ xs) = let t = length-take_most n xs in omega arith
+
+        get_or_within : (xs : List ℕ) (j : ℕ) → j < length xs → Among xs (get_or xs j 0)
+        get_or_within [] j h = absurd (omega arith)
+        get_or_within (x ∷ xs) zero h = inl refl
+        get_or_within (x ∷ xs) (suc j) h = inr (get_or_within xs j (omega arith))
+
+    black_new : TargetsMarked z.slots p.firsts p.targets p.lives marked' (rest ++ heads)
+    black_new = record { each = λ x slot t live low at b g. dite (ℕ_discrete (first_at p.firsts x) head) (λ (e : first_at p.firsts x ≡ head). own_cell x slot t live low at e) (λ (ne : first_at p.firsts x ≢ head). other x slot t live low at b g ne (now_set x b)) }
+      where
+        own_cell : (x slot t : ℕ) → life_at p.lives x ≡ Live → slot < z.slots → target_at z.slots p.targets x slot ≡ Some t → first_at p.firsts x ≡ head → get_or marked' (first_at p.firsts t) false ≡ true
+        own_cell x slot t live low at e =
+            let named_x = k.units.named x (live_used p.lives x live) in
+            let lives_x : LivesAt p.names p.lives x named_x.0 = record { name = named_x.1; life = live } in
+            let there = aims_target (target_at z.slots p.targets x slot) (w.cell named_x.0 slot) t (k.cells.aims x named_x.0 slot lives_x low) at in
+            sh.each t (looked_at x named_x.0 slot t there.0 lives_x (stands.whole x named_x.0 lives_x e) there.1 at)
+
+        now_set : (x : ℕ) → get_or marked' (first_at p.firsts x) false ≡ true → (get_or p.marked (first_at p.firsts x) false ≡ true) ⊎ Among heads (first_at p.firsts x)
+        now_set x b = set_among p.marked heads (first_at p.firsts x) (sym (ap (λ (xs : List Bool). get_or xs (first_at p.firsts x) false) sh.bits) ∙ b)
+
+        other : (x slot t : ℕ) → life_at p.lives x ≡ Live → slot < z.slots → target_at z.slots p.targets x slot ≡ Some t → get_or marked' (first_at p.firsts x) false ≡ true → (Among (rest ++ heads) (first_at p.firsts x) → ⊥) → first_at p.firsts x ≢ head
+            → (get_or p.marked (first_at p.firsts x) false ≡ true) ⊎ Among heads (first_at p.firsts x) → get_or marked' (first_at p.firsts t) false ≡ true
+        other x slot t live low at b g ne (inr a) = absurd (g (among_right rest heads (first_at p.firsts x) a))
+        other x slot t live low at b g ne (inl before) = still (first_at p.firsts t) ((k.black marking).each x slot t live low at before (λ a. not_grey (subst (λ (xs : List ℕ). Among xs (first_at p.firsts x)) grey_split a)))
+          where
+            not_grey : (head ≡ first_at p.firsts x) ⊎ Among rest (first_at p.firsts x) → ⊥
+            not_grey (inl e) = ne (sym e)
+            not_grey (inr a) = g (among_left rest heads (first_at p.firsts x) a)
+
+    abbrev q : Parts
+    q = record p { scanned = p.scanned + 1; pushed = pushed'; marked = marked'; work = work' }
+
+    abbrev end : State
+    end = run t0 es
+
+    shows_end : Shows z q (as_in (state_of old.history) end)
+    shows_end = record {
+      phase = k.phase;
+      frames = k.frames;
+      names = k.names;
+      units = k.units;
+      distinct = k.distinct;
+      roots = k.roots;
+      held = k.held;
+      work = work_new;
+      idle = λ ne. absurd (ne marking);
+      marks = λ e.
+          subst (λ (xs : List ℕ). MarksShow p.names p.firsts p.sizes p.next p.lives w.units marked' (pushed_of work' pushed') xs end.marks.kept end.marks.fresh end.marks.scanned) (sym grey_new)
+          (subst (λ (xs : List ℕ). MarksShow p.names p.firsts p.sizes p.next p.lives w.units marked' xs (rest ++ heads) end.marks.kept end.marks.fresh end.marks.scanned) (sym sh.listed)
+          (subst (λ (xs : List Bool). MarksShow p.names p.firsts p.sizes p.next p.lives w.units xs (pushed_of p.work p.pushed ++ heads) (rest ++ heads) end.marks.kept end.marks.fresh end.marks.scanned) (sym sh.bits) ran.marks));
+      roots_marked = λ e x r. still (first_at p.firsts x) (k.roots_marked marking x r);
+      kinds = k.kinds;
+      cells = k.cells;
+      black = λ e. subst (λ (xs : List ℕ). TargetsMarked z.slots p.firsts p.targets p.lives marked' xs) (sym grey_new) black_new;
+      removed = k.removed;
+      gone = k.gone;
+      order = k.order;
+      gathers = k.gathers;
+      queue = λ e. subst (λ (last : Option Name). QueueShows p.names p.order p.listed p.begun p.from p.kept p.done w.removals w.last_removed w.found last) (sym ran.asked) (k.queue e);
+      free = k.free;
+      none_agreed = ran.agreed ∙ k.none_agreed;
+      none_asked = λ ne. ran.asked ∙ k.none_asked ne;
+      no_steps = ran.steps ∙ k.no_steps;
+    }
+
+    sliced_end : Sliced z (state_of old.history) marker budget (total + size) q end
+    sliced_end = record {
+      world = ran.world;
+      frames = ran.frames;
+      earlier = ran.earlier;
+      moments = ran.moments ∙ ap (λ (x : World). x ∷ ran.earlier) (sym ran.world);
+      total_is =
+          let sum : member_count (end.slices marker).scanned ≡ length u + member_count (s.slices marker).scanned = ap (λ (us : List (List Name)). member_count us) ran.scanned ∙ count_cons (λ (v : List Name). length v) u (s.slices marker).scanned in
+          omega (arith, i.sliced.total_is, stands.size);
+      within = subst (λ (us : List (List Name)). WasWithin budget us) (sym ran.scanned) (omega (arith, i.sliced.total_is));
+      shows = shows_end;
+    }
+
+    abbrev scan_entry : Entry
+    scan_entry = record { pass = Marker marker; act = act.Scanned n }
+
+    whole : mid ++ scan_entry ∷ [] ≡ history ++ es
+    whole =
+        ap (λ (xs : List Entry). xs ++ scan_entry ∷ []) sh.entries
+        ∙ append_assoc history (by (Marker marker) (map act.Kept (names_at p.names heads))) (scan_entry ∷ [])
+        ∙ ap (λ (xs : List Entry). history ++ xs) (sym (by-append (Marker marker) (map act.Kept (names_at p.names heads)) (act.Scanned n ∷ [])))
+
+    end_is : end ≡ run s es
+    end_is = ap (λ (x : State). run x es) same_state
+
+    all_notes : (of : List Name) → list_all is_mark_note (map act.Kept of ++ act.Scanned n ∷ []) ≡ true
+    all_notes [] = refl
+    all_notes (x ∷ of) = all_notes of
+
+    both_notes : (xs ys : List Act) → list_all is_mark_note xs ≡ true → list_all is_mark_note ys ≡ true → list_all is_mark_note (xs ++ ys) ≡ true
+    both_notes [] ys a b = b
+    both_notes (x ∷ xs) ys a b = let parts = and_true (is_mark_note x) _ a in and_from _ _ parts.0 (both_notes xs ys parts.1 b)
+
+    pub mark_scans : IsSlicing z old marker budget (total + size) q (mid ++ scan_entry ∷ [])
+    mark_scans = subst (λ (xs : List Entry). IsSlicing z old marker budget (total + size) q xs) (sym whole) record {
+      closed = i.closed;
+      notes = i.notes ++ acts;
+      grown = ap (λ (xs : List Entry). xs ++ es) i.grown ∙ append_assoc old.history (by (Marker marker) (act.SliceOpen ∷ i.notes)) es
+          ∙ ap (λ (xs : List Entry). old.history ++ xs) (sym (by-append (Marker marker) (act.SliceOpen ∷ i.notes) acts));
+      only = both_notes i.notes acts i.only (all_notes (names_at p.names heads));
+      legal = legal_join z beginning history es i.legal (subst (λ (x : State). LegalFrom z x es) same_state ran.legal);
+      sliced = subst (λ (x : State). Sliced z (state_of old.history) marker budget (total + size) q x) (end_is ∙ sym (state_more history es)) sliced_end;
+      held = λ lane r h. holds_more history es p.names lane r
+          (λ e. subst (λ (x : State). has (x.frames lane).held r.name ≡ true) end_is (subst (λ (f : ℕ → Frame). has (f lane).held r.name ≡ true) (sym ran.frames) (subst (λ (f : ℕ → Frame). has (f lane).held r.name ≡ true) i.sliced.frames e))) (i.held lane r h);
+    }
+
+-- ---- the slice closes
+
+module _ {z : Sizes} {old : Shown} {marker budget total : ℕ} {p : Parts} {history : List Entry} (i : IsSlicing z old marker budget total p history) (range : marker < z.markers) (why : MarkStop) (stops : StopsBy total budget why) (done : total < budget → p.pushed ≤ p.scanned) where
+  abbrev c : State
+  c = state_of history
+
+  abbrev v : World
+  v = after old.history
+
+  abbrev h : Shows z p (as_in (state_of old.history) c)
+  h = i.sliced.shows
+
+  abbrev reply : Marked
+  reply = record { scanned = total; stop = why }
+
+  abbrev slice_entry : Entry
+  slice_entry = record { pass = Marker marker; act = act.Slice budget reply }
+
+  grey_none : total < budget → grey_units c ≡ []
+  grey_none less = subst (λ (x : World). grey_in x.phase c.marks x.units ≡ []) (sym i.sliced.world)
+      (grey_empty v.phase c.marks v.units (λ e. filter_none (is_grey c.marks) v.units (λ unit a is.
+      let at = h.units.all unit a in
+      let among = (h.marks (h.phase ∙ e)).all_grey at.0 unit at.1 is in
+      let none : grey_of p.work p.scanned p.pushed ≡ [] = drop_all p.scanned (take p.pushed p.work) (omega (arith, done less, length-take-le p.pushed p.work (omega (arith, h.work.few, h.work.work_len)))) in
+      absurd (subst (λ (xs : List ℕ). Among xs at.0) none among))))
+
+  may_stop : (how : MarkStop) → StopsBy total budget how → MayStop c marker budget reply how
+  may_stop stop.Spent e = e
+  may_stop stop.Idle e = (e, inl (grey_none e))
+
+  opened_now : is_open c.world (Marker marker) ≡ true
+  opened_now = subst (λ (x : World). is_open x (Marker marker) ≡ true) (sym i.sliced.world) (let e = same_pass_refl (Marker marker) in rw e refl)
+
+  may_slice : MayBy z c (Marker marker) (act.Slice budget reply)
+  may_slice = record { in_range = range; slice = opened_now; may = record { scanned = i.sliced.total_is; within = i.sliced.within; stop = may_stop why stops } }
+
+  abbrev last : State
+  last = next c slice_entry
+
+  out_again : filter (λ q. not (same_pass (Marker marker) q)) (Marker marker ∷ v.opened) ≡ v.opened
+  out_again = let e = same_pass_refl (Marker marker) in rw e (none_out (same_pass (Marker marker)) v.opened i.closed)
+
+  last_world : last.world ≡ v
+  last_world = ap (λ (x : World). record x { opened = filter (λ q. not (same_pass (Marker marker) q)) x.opened }) i.sliced.world ∙ ap (λ (passes : List Pass). record v { opened = passes }) out_again
+
+  same_last : as_in (state_of old.history) last ≡ last
+  same_last = λ t. record { world = sym last_world t; marks = last.marks; frames = sym i.sliced.frames t; slices = last.slices; collector = last.collector }
+
+  shows_last : Shows z p last
+  shows_last = subst (λ (x : State). Shows z p x) same_last (quiet_shows z p (as_in (state_of old.history) c) _ _ _ h.none_agreed refl h.no_steps h)
+
+  pub sliced_invariant : IsPlain z p (history ++ slice_entry ∷ [])
+  sliced_invariant = record {
+    legal = legal_join z beginning history (slice_entry ∷ []) i.legal (may_slice, tt);
+    shows = subst (λ (x : State). Shows z p x) (sym (state_more history (slice_entry ∷ []))) shows_last;
+  }
+
+  state_is : run (state_of old.history) (by (Marker marker) (act.SliceOpen ∷ i.notes)) ≡ c
+  state_is = sym (state_more old.history (by (Marker marker) (act.SliceOpen ∷ i.notes))) ∙ ap (λ (xs : List Entry). state_of xs) (sym i.grown)
+
+  idle_then : why ≡ stop.Idle → (total < budget) × (grey_units (run (state_of old.history) (by (Marker marker) (act.SliceOpen ∷ i.notes))) ≡ [])
+  idle_then e = let less : total < budget = subst (λ (how : MarkStop). StopsBy total budget how) e stops in (less, subst (λ (x : State). grey_units x ≡ []) (sym state_is) (grey_none less))
+
+  then_idle : (how : MarkStop) → StopsBy total budget how → total < budget → how ≡ stop.Idle
+  then_idle stop.Idle e less = refl
+  then_idle stop.Spent e less = absurd (omega arith)
+
+  pub sliced_appends : Appends z old.history (history ++ slice_entry ∷ []) (Marker marker) (act.Slice budget reply)
+  sliced_appends = record {
+    acts = (act.SliceOpen ∷ i.notes) ++ act.Slice budget reply ∷ [];
+    call = record { notes = i.notes; are = refl; only = i.only; idle = (idle_then, λ both. then_idle why stops both.0) };
+    grown = ap (λ (xs : List Entry). xs ++ slice_entry ∷ []) i.grown ∙ append_assoc old.history (by (Marker marker) (act.SliceOpen ∷ i.notes)) (slice_entry ∷ [])
+        ∙ sym (ap (λ (xs : List Entry). old.history ++ xs) (by-append (Marker marker) (act.SliceOpen ∷ i.notes) (act.Slice budget reply ∷ [])));
+    legal = sliced_invariant.legal;
+  }
+
+  pub sliced_held : (lane : ℕ) (r : Ref) → Holds old lane r → Holds (record { history = history ++ slice_entry ∷ []; names = p.names }) lane r
+  sliced_held lane r held = holds_more history (slice_entry ∷ []) p.names lane r (λ e. e) (i.held lane r held)
