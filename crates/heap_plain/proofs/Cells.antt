@@ -1,21 +1,18 @@
 -- Kinds and cells, while objects come and go, and cells that are written.
-use Rattle.std.proofs.Common.{◌≡◌, ◌≢◌, ℕ, ◌+◌, ◌*◌, ◌<◌, ◌≤◌, ◌⊎◌, refl, sym, subst, ap, ◌∙◌, inl, inr, arith, Bool, cond, true, false, List, [], ◌∷◌, ◌++◌, length, get_or, Option, Some, None}
+use Rattle.std.proofs.Common.{◌≡◌, ◌≢◌, ℕ, ◌+◌, ◌*◌, ◌<◌, ◌≤◌, refl, sym, subst, ap, ◌∙◌, inl, arith, Bool, cond, true, false, List, [], ◌∷◌, ◌++◌, length, get_or, Option, Some, None}
 use Rattle.std.proofs.Math.ListN.{set}
 use Rattle.std.proofs.Math.Logic.{dite}
 use Rattle.std.proofs.Math.Decide.{ℕ_discrete, dec_le}
 use Rattle.std.proofs.Math.Nat.{lt_of_not-le}
-use Rattle.std.proofs.lemmas.Bool.{ne_eqb, eq-eqb}
 use Rattle.std.proofs.lemmas.List.{length-set, get_or-set_same, get_or-set_other}
 use Rattle.world_model.specs.Sizes.{Sizes, item_count}
 use Rattle.world_model.specs.NameLists.{same_name, set_at, set_name}
-use Rattle.world_model.proofs.ListFacts.{Among}
 use Rattle.world_model.proofs.NameFacts.{same_name_true, same_name_refl, set_at_same}
 use Rattle.heap_plain.specs.Types.{Name, Kind}
 use Rattle.heap_plain.specs.declared.life.Life.{Life}
-use Rattle.heap_plain.specs.declared.life.Life.TheVariants.{Live}
-use Rattle.heap_plain.specs.Parts.{name_at, life_at, first_at, kind_at, target_at, plain_at}
+use Rattle.heap_plain.specs.Parts.{name_at, first_at, kind_at, target_at}
 use Rattle.heap_plain.specs.Sections.{NamesShow, LivesAt, Aims, KindsShow, CellsShow, TargetsMarked}
-use Rattle.heap_plain.proofs.WorldFacts.{differs, set_at_other, among_left, among_right}
+use Rattle.heap_plain.proofs.WorldFacts.{set_at_other, among_left, among_right}
 use Rattle.heap_plain.proofs.Fillings.{same_row, row_below}
 use Rattle.heap_plain.proofs.Standing.{name_below}
 
@@ -68,10 +65,6 @@ cells_less {z} {targets = targets} {cell = cell} was stays s = record {
   unmade = s.unmade;
   unmade_plain = s.unmade_plain;
 }
-
-pub targets_less : {slots : ℕ} {firsts : List ℕ} {targets : List (Option ℕ)} {lives ls : List Life} {marked : List Bool} {grey : List ℕ} → ((i : ℕ) → life_at ls i ≡ Live → life_at lives i ≡ Live)
-    → TargetsMarked slots firsts targets lives marked grey → TargetsMarked slots firsts targets ls marked grey
-targets_less was k = record { each = λ i slot t live. k.each i slot t (was i live) }
 
 -- ---- a value that is written
 

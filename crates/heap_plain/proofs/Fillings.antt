@@ -72,9 +72,6 @@ row_end slots i n h = let more : suc i ≤ n = omega arith in omega (arith, mul-
 pub row_below : (slots i n slot : ℕ) → i < n → slot < slots → i * slots + slot < n * slots
 row_below slots i n slot h below = let more : suc i ≤ n = omega arith in omega (arith, mul-le-mul_right slots more, suc-mul i slots)
 
-pub RowsFilled-none : {A : Type 0} (xs : List A) (at : ℕ → ℕ) (slots : ℕ) (v : A) → RowsFilled xs xs at 0 slots v
-RowsFilled-none xs at slots v = record { len = refl; inside = λ k slot d below. absurd (omega arith); outside = λ i slot d below h. refl }
-
 -- one more row is filled
 pub RowsFilled-more : {A : Type 0} (old mid new : List A) (at : ℕ → ℕ) (k here slots : ℕ) (v : A) → RowsFilled old mid at k slots v → here ≡ at k → Filled mid new (here * slots) slots (λ j. v) → RowsFilled old new at (k + 1) slots v
 RowsFilled-more {A} old mid new at k here slots v was is row = record {

@@ -1,5 +1,5 @@
 -- The kinds of a list and of one that goes on with others.
-use Rattle.std.proofs.Common.{◌≡◌, ℕ, ◌+◌, ◌<◌, ◌≤◌, ◌&&◌, zero, suc, arith, Bool, true, sym, ap, ◌∙◌, List, [], ◌∷◌, ◌++◌, length, length-append, get_or, get_or-append-add, slice_get, nat_le, nat_lt, Option, Some}
+use Rattle.std.proofs.Common.{◌≡◌, ℕ, ◌+◌, ◌<◌, ◌≤◌, ◌&&◌, zero, suc, arith, true, sym, ap, ◌∙◌, List, [], ◌∷◌, ◌++◌, length, length-append, get_or-append-add, slice_get, nat_le, nat_lt, Some}
 use Rattle.std.specs.List.{list_all}
 use Rattle.std.proofs.lemmas.Bool.Decides.{nat_tests}
 use Rattle.std.proofs.lemmas.List.{get_or_append_left}

@@ -1,14 +1,14 @@
 -- A slice of marking.
-use Rattle.std.proofs.Common.{◌≡◌, ◌≢◌, ℕ, ◌+◌, ◌<◌, ◌≤◌, ◌||◌, not, refl, sym, subst, ap, ◌∙◌, inl, inr, zero, suc, arith, Bool, true, false, List, [], ◌∷◌, ◌++◌, length, length-append, get_or, map, take, drop, ◌⊎◌, filter, append_assoc, Option, Some, None, IsSome, is_some}
+use Rattle.std.proofs.Common.{◌≡◌, ◌≢◌, ℕ, ◌+◌, ◌<◌, ◌≤◌, not, refl, sym, subst, ap, ◌∙◌, inl, inr, zero, suc, arith, Bool, true, false, List, [], ◌∷◌, ◌++◌, length, length-append, get_or, map, take, drop, ◌⊎◌, filter, append_assoc, Option, Some, IsSome, is_some}
 use Rattle.std.specs.List.{list_any, list_all}
 use Rattle.std.proofs.Math.Logic.{dite}
 use Rattle.std.proofs.Math.Decide.{ℕ_discrete}
 use Rattle.std.proofs.lemmas.Bool.{and_from}
-use Rattle.std.proofs.lemmas.List.{drop-append-le, drop_all, drop_more, length-take-le, length-drop, get_or-take}
+use Rattle.std.proofs.lemmas.List.{drop-append-le, drop_all, drop_more, length-take-le, get_or-take}
 use Rattle.world_model.specs.Sizes.{Sizes, item_count}
 use Rattle.world_model.specs.NameLists.{same_name, same_pass, has}
 use Rattle.world_model.specs.World.{World, is_open}
-use Rattle.world_model.specs.State.{State, Marks, Slicing, Frame, is_grey, grey_in, grey_units, beginning}
+use Rattle.world_model.specs.State.{State, Slicing, Frame, is_grey, grey_in, grey_units, beginning}
 use Rattle.world_model.specs.Reach.{graph, Refers}
 use Rattle.world_model.specs.Next.{next, run}
 use Rattle.world_model.specs.MarkerSteps.{member_count, WasWithin, MayStop}
@@ -16,10 +16,10 @@ use Rattle.world_model.specs.Histories.{MayBy, LegalFrom, Legal, after, state_of
 use Rattle.world_model.specs.Calls.{by, is_mark_note, Appends}
 use Rattle.world_model.specs.Engines.{no_slice}
 use Rattle.world_model.proofs.ListFacts.{Among, and_true, or_right}
-use Rattle.world_model.proofs.NameFacts.{set_at_same, same_name_true, same_name_refl}
+use Rattle.world_model.proofs.NameFacts.{set_at_same, same_name_refl}
 use Rattle.world_model.proofs.Units.{AreApart, units_apart}
 use Rattle.world_model.proofs.Joins.{legal_join, legal_split}
-use Rattle.heap_plain.specs.Types.{Name, Ref, Kind, Pass, Marker, Phase, Marking, MarkStop, Marked, Act, Entry}
+use Rattle.heap_plain.specs.Types.{Name, Ref, Pass, Marker, Marking, MarkStop, Marked, Act, Entry}
 use Rattle.heap_plain.specs.Types.act
 use Rattle.heap_plain.specs.Types.stop
 use Rattle.heap_plain.specs.declared.life.Life.TheVariants.{Live}
@@ -27,16 +27,16 @@ use Rattle.heap_plain.specs.Parts.{Parts, Shown, Holds, name_at, life_at, first_
 use Rattle.heap_plain.specs.Listing.{chained}
 use Rattle.heap_plain.specs.Notes.{names_at, all_set, StopsBy}
 use Rattle.heap_plain.specs.Shading.{InUnit, IsWorklist, Shades}
-use Rattle.heap_plain.specs.Sections.{Distinct, StandsAt, LivesAt, AreLinked, WorkShows, MarksShow, TargetsMarked, RootsMarked, QueueShows, pushed_of, grey_of}
+use Rattle.heap_plain.specs.Sections.{Distinct, StandsAt, LivesAt, AreLinked, WorkShows, MarksShow, TargetsMarked, QueueShows, pushed_of, grey_of}
 use Rattle.heap_plain.specs.Plain.{Shows, IsPlain, as_in, Sliced, IsSlicing}
 use Rattle.heap_plain.proofs.WorldFacts.{same_pass_refl, none_out, state_more, among_left, among_right}
 use Rattle.heap_plain.proofs.Noting.{by-append, length-all_set}
 use Rattle.heap_plain.proofs.Shadings.{all_still}
 use Rattle.heap_plain.proofs.BeginSteps.{set_among}
-use Rattle.heap_plain.proofs.Entries.{plain_more, holds_more}
+use Rattle.heap_plain.proofs.Entries.{holds_more}
 use Rattle.heap_plain.proofs.Quiet.{quiet_shows}
 use Rattle.heap_plain.proofs.Standing.{member_at, name_below, bit_below, live_used}
-use Rattle.heap_plain.proofs.Listings.{chained_next, linked_at}
+use Rattle.heap_plain.proofs.Listings.{chained_next}
 use Rattle.heap_plain.proofs.Cells.{aims_target, aims_name, cell_ref, cell_below}
 use Rattle.heap_plain.proofs.MarkSteps.{distinct_drop}
 use Rattle.heap_plain.proofs.SliceSteps.{linked_place, count_cons, filter_none, no_marker, not_true, marking_or_not, grey_empty}

@@ -4,10 +4,10 @@ use Rattle.std.specs.Option.{option_to_list}
 use Rattle.std.proofs.Math.ListN.{set}
 use Rattle.std.proofs.Math.Logic.{dite}
 use Rattle.std.proofs.Math.Decide.{ℕ_discrete}
-use Rattle.std.proofs.lemmas.List.{length-set, get_or-set_same, get_or-set_other, take_more_set, take_more, map-append}
+use Rattle.std.proofs.lemmas.List.{length-set, get_or-set_same, get_or-set_other, take_more_set, map-append}
 use Rattle.world_model.specs.Calls.{by}
 use Rattle.world_model.proofs.ListFacts.{and_true}
-use Rattle.heap_plain.specs.Types.{Name, Act, Pass, Collector, Marker, Entry}
+use Rattle.heap_plain.specs.Types.{Name, Act, Pass, Collector, Entry}
 use Rattle.heap_plain.specs.Types.act
 use Rattle.heap_plain.specs.Parts.{name_at, first_at}
 use Rattle.heap_plain.specs.Notes.{names_at, all_set, KeepsOne, CanKeep, Keeps}

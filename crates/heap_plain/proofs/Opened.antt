@@ -1,11 +1,10 @@
 -- The open frames and slices after one call.
-use Rattle.std.proofs.Common.{◌≡◌, ℕ, arith, cond, refl, ap, ◌∙◌, inl, inr, Bool, true, false, not, List, [], ◌∷◌, ◌++◌, map, filter, Option, Some, Result, Ok, Err}
+use Rattle.std.proofs.Common.{◌≡◌, ℕ, arith, cond, refl, ap, ◌∙◌, inl, inr, Bool, true, false, not, List, [], ◌∷◌, ◌++◌, map, filter, Option, Result, Ok, Err}
 use Rattle.std.specs.List.{list_all, list_any}
 use Rattle.std.proofs.lemmas.Bool.{and_from}
-use Rattle.world_model.specs.Sizes.{Sizes, small}
+use Rattle.world_model.specs.Sizes.{Sizes, level, small}
 use Rattle.world_model.specs.NameLists.{same_pass}
-use Rattle.std.specs.Option.{option_map_or}
-use Rattle.world_model.specs.World.{World, kind_of, refs_of, plain_of}
+use Rattle.world_model.specs.World.{World}
 use Rattle.world_model.specs.State.{State, Marks}
 use Rattle.world_model.specs.Next.{next_world, next, run}
 use Rattle.world_model.specs.Histories.{after, state_of}
@@ -142,9 +141,6 @@ same_by_read_plain {old} {p} h = by_entries h ∙ run_opened (state_of old) p h.
 pub same_by_write_plain : {z : Sizes} {old new : List Entry} {p : Pass} {at : Name} {slot value was : ℕ} → Appends z old new p (act.WritePlain at slot value was) → (after new).opened ≡ (after old).opened
 same_by_write_plain {old} {p} h = by_entries h ∙ run_opened (state_of old) p h.acts (ap (list_all is_inside) h.call)
 
--- the cells of an object by its kind
-pub refs_by_kind : (w : World) (n : Name) (kind : Kind) → kind_of w n ≡ Some kind → refs_of w n ≡ kind.refs
-refs_by_kind w n kind e = ap (λ (o : Option Kind). option_map_or (λ k. k.refs) o 0) e
-
-pub plain_by_kind : (w : World) (n : Name) (kind : Kind) → kind_of w n ≡ Some kind → plain_of w n ≡ kind.plain
-plain_by_kind w n kind e = ap (λ (o : Option Kind). option_map_or (λ k. k.plain) o 0) e
+-- the same in a level
+pub in_level_frame : (h : List Entry) → (after h).opened ≡ Lane 0 ∷ [] → IsInFrame level h 0
+in_level_frame h e = record { in_range = omega arith; opened = ap (list_any (same_pass (Lane 0))) e }

@@ -1,5 +1,5 @@
 -- Reading and writing cells.
-use Rattle.std.proofs.Common.{◌≡◌, ◌≢◌, ℕ, ◌+◌, ◌*◌, ◌-◌, ◌<◌, ◌≤◌, ◌||◌, ◌&&◌, not, refl, sym, subst, ap, ◌∙◌, inl, inr, arith, Bool, true, false, List, [], ◌∷◌, ◌++◌, append_assoc, append-nil, length, get_or, ◌⊎◌, Option, Some, None, IfSome, IsSome, is_some, option_map}
+use Rattle.std.proofs.Common.{◌≡◌, ◌≢◌, ℕ, ◌+◌, ◌*◌, ◌-◌, ◌<◌, ◌≤◌, refl, sym, subst, ap, ◌∙◌, inl, inr, arith, Bool, true, false, List, [], ◌∷◌, ◌++◌, append_assoc, append-nil, length, get_or, ◌⊎◌, Option, Some, None, IfSome, IsSome, is_some, option_map}
 use Rattle.std.specs.List.{list_any, flat_map}
 use Rattle.std.specs.Option.{option_map_or, option_to_list}
 use Rattle.std.proofs.Math.ListN.{set}
@@ -8,27 +8,27 @@ use Rattle.std.proofs.Math.Decide.{ℕ_discrete}
 use Rattle.std.proofs.lemmas.List.Folds.{list_any-append}
 use Rattle.world_model.specs.Sizes.{Sizes, item_count}
 use Rattle.world_model.specs.NameLists.{same_name, same_pass, has, set_at}
-use Rattle.world_model.specs.World.{World, is_open, unit_of, kind_of, refs_of, plain_of}
-use Rattle.world_model.specs.State.{State, Frame, Holds as HoldsName, IsMarked}
+use Rattle.world_model.specs.World.{is_open, unit_of, kind_of, refs_of, plain_of}
+use Rattle.world_model.specs.State.{State, Frame, Holds as HoldsName}
 use Rattle.world_model.specs.LaneSteps.{IsShaded}
 use Rattle.world_model.specs.Next.{next, run}
-use Rattle.world_model.specs.Histories.{MayBy, after, state_of}
+use Rattle.world_model.specs.Histories.{after, state_of}
 use Rattle.world_model.specs.Calls.{Appends}
 use Rattle.world_model.specs.Engines.{name_of}
-use Rattle.world_model.proofs.ListFacts.{and_true, or_true, or_right}
-use Rattle.world_model.proofs.NameFacts.{set_at_same, same_name_refl}
-use Rattle.world_model.proofs.Units.{AreApart, units_apart}
+use Rattle.world_model.proofs.ListFacts.{or_true, or_right}
+use Rattle.world_model.proofs.NameFacts.{set_at_same}
+use Rattle.world_model.proofs.Units.{units_apart}
 use Rattle.heap_plain.specs.Types.{Name, Ref, Kind, Lane, Pass, Marking, Entry}
 use Rattle.heap_plain.specs.Types.act
 use Rattle.heap_plain.specs.declared.life.Life.{Life}
-use Rattle.heap_plain.specs.Parts.{Parts, Holds, name_at, first_at, kind_at, target_at, is_marking}
+use Rattle.heap_plain.specs.Parts.{Parts, Holds, name_at, first_at, kind_at, target_at}
 use Rattle.heap_plain.specs.Shading.{MarksIf, must_shade, head_of, shade_notes}
 use Rattle.heap_plain.specs.Storing.{Refers}
-use Rattle.heap_plain.specs.Sections.{LivesAt, HeldShow, Aims, TargetsMarked, grey_of}
+use Rattle.heap_plain.specs.Sections.{LivesAt, HeldShow, Aims}
 use Rattle.heap_plain.specs.Plain.{Shows, IsPlain}
 use Rattle.heap_plain.proofs.WorldFacts.{set_at_other, unit_of_is, state_more}
 use Rattle.heap_plain.proofs.Entries.{plain_more, holds_more}
-use Rattle.heap_plain.proofs.Refusals.{unchanged, held_same, keeps_held}
+use Rattle.heap_plain.proofs.Refusals.{held_same, keeps_held}
 use Rattle.heap_plain.proofs.Cells.{place_below, cells_write, numbers_write, targets_write, aims_target}
 use Rattle.heap_plain.proofs.RootSteps as root
 

@@ -1,5 +1,5 @@
 -- What the notes of a unit that is scanned do.
-use Rattle.std.proofs.Common.{◌≡◌, ℕ, ◌<◌, refl, sym, subst, ap, ◌∙◌, inl, inr, arith, Bool, true, false, List, [], ◌∷◌, ◌++◌, append_assoc, append-nil, length, get_or, map, ◌⊎◌, Option, Some, None}
+use Rattle.std.proofs.Common.{◌≡◌, ℕ, ◌<◌, refl, sym, subst, ap, ◌∙◌, inl, arith, Bool, true, false, List, [], ◌∷◌, ◌++◌, append_assoc, append-nil, length, get_or, map, Option, Some}
 use Rattle.std.specs.Option.{option_to_list}
 use Rattle.std.proofs.Math.ListN.{set}
 use Rattle.std.proofs.lemmas.List.{length-set}
@@ -11,13 +11,13 @@ use Rattle.world_model.specs.Reach.{graph, IsUnit, Refers}
 use Rattle.world_model.specs.Next.{next, run}
 use Rattle.world_model.specs.Histories.{LegalFrom, MayBy}
 use Rattle.world_model.specs.Calls.{by}
-use Rattle.world_model.proofs.ListFacts.{Among, contains_among, among_contains}
+use Rattle.world_model.proofs.ListFacts.{contains_among, among_contains}
 use Rattle.world_model.proofs.NameFacts.{set_at_same}
 use Rattle.world_model.proofs.Units.{AreApart}
-use Rattle.heap_plain.specs.Types.{Name, Kind, Marking, Marker, Act, Entry}
+use Rattle.heap_plain.specs.Types.{Name, Marking, Marker, Act, Entry}
 use Rattle.heap_plain.specs.Types.act
 use Rattle.heap_plain.specs.declared.life.Life.{Life}
-use Rattle.heap_plain.specs.Parts.{name_at, first_at}
+use Rattle.heap_plain.specs.Parts.{first_at}
 use Rattle.heap_plain.specs.Notes.{names_at, all_set}
 use Rattle.heap_plain.specs.Shading.{CanShade}
 use Rattle.heap_plain.specs.Sections.{Distinct, NamesShow, UnitsShow, StandsAt, LivesAt, MarksShow}

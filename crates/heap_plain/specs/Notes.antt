@@ -1,8 +1,8 @@
 -- The notes of a collection, and what they leave of the vectors.
-use Rattle.std.specs.Prelude.{◌≡◌, ◌≢◌, ℕ, ◌+◌, ◌<◌, ◌≤◌, ◌⊎◌, Bool, true, false, not, ◌&&◌, List, [], ◌∷◌, ◌++◌, length, get_or, map, take, Option}
+use Rattle.std.specs.Prelude.{◌≡◌, ◌≢◌, ℕ, ◌+◌, ◌<◌, ◌≤◌, Bool, true, false, not, ◌&&◌, List, [], ◌∷◌, ◌++◌, length, get_or, map, take, Option}
 use Rattle.std.specs.Option.{option_to_list}
 use Rattle.std.proofs.Math.ListN.{set}
-use Rattle.heap_plain.specs.Types.{Name, Phase, Idle, Marking, Begin, Commit, Marker, Collector, MarkStop, Entry}
+use Rattle.heap_plain.specs.Types.{Name, Phase, Idle, Marking, Begin, Commit, Collector, MarkStop, Entry}
 use Rattle.heap_plain.specs.Types.act
 use Rattle.heap_plain.specs.Types.begin
 use Rattle.heap_plain.specs.Types.commit

@@ -702,3 +702,64 @@ fn what_is_stored_while_a_collection_marks_is_kept(rt: HostRuntime) -> Result<()
     assert_eq!(rt; removed_amid(&rt, rt.alloc(), &steps)?, 0);
     Ok(())
 }
+
+/// Makes an object of a level that refers to another one, in the open frame of lane 0.
+fn make_before(rt: &impl Abort, heap: &mut PlainHeap<Level>, to: Option<Ref>) -> Result<Ref, Fail>
+    requires opened { (after heap.old.history).opened ≡ Lane 0 ∷ [] }
+    requires to { IfSome to (Holds heap.old 0) }
+    ensures opened { OnOk result ((after heap.new.history).opened ≡ Lane 0 ∷ []) }
+    ensures held { IfOk result (Holds heap.new 0) }
+{
+    let mut one = [NOTHING; 1];
+    match heap.create(0, &[PAIR; 1], &mut one) {
+        Ok(()) => {}
+        Err(_) => panic!(rt; "no room"),
+    }
+    let kind = heap.kind_of(0, one[0]);
+    assert!(rt; kind.refs > 0);
+    heap.write_ref(0, one[0], 0, to);
+    Ok(one[0])
+}
+
+/// Makes a chain of 8,000 objects, the last of which is rooted where that is asked for.
+fn chain(rt: &impl Abort, heap: &mut PlainHeap<Level>, rooted: bool) -> Result<(), Fail>
+    requires opened { (after heap.old.history).opened ≡ Lane 0 ∷ [] }
+    ensures opened { OnOk result ((after heap.new.history).opened ≡ Lane 0 ∷ []) }
+{
+    let mut last = make_before(rt, heap, None)?;
+    for n in 1..8000 {
+        let _ = n;
+        last = make_before(rt, heap, Some(last))?;
+    }
+    heap.set_root(0, last, rooted);
+    Ok(())
+}
+
+/// How many objects of such a chain a collection scans and removes, and how many are left when they
+/// are destroyed.
+fn chained(rt: &impl Abort, alloc: Global, rooted: bool) -> Result<(u32, u32, u32), Fail> {
+    let mut heap = PlainHeap::<Level>::new(alloc)?;
+    let mut found = [NOBODY; 64];
+    let mut hooks = MemHooks::new(0);
+    assert_eq!(rt; heap.open_frame(0), Phase::Idle);
+    chain(rt, &mut heap, rooted)?;
+    heap.close_frame(0);
+    assert_eq!(rt; heap.begin(), Begin::Started);
+    let marked = heap.mark(0, 100000);
+    assert_eq!(rt; heap.commit(), Commit::Done);
+    for n in 0..200 {
+        let _ = n;
+        heap.sweep(100000, &mut found);
+    }
+    let removed = heap.left();
+    heap.purge(&mut hooks, 100000);
+    Ok((marked.scanned, removed, heap.left()))
+}
+
+#[test]
+fn a_chain_of_8000_objects_is_kept_or_removed(rt: HostRuntime) -> Result<(), Fail> {
+    let alloc = rt.alloc();
+    assert_eq!(rt; chained(&rt, alloc, true)?, (8000, 0, 0));
+    assert_eq!(rt; chained(&rt, alloc, false)?, (0, 8000, 0));
+    Ok(())
+}

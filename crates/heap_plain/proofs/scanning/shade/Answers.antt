@@ -1,6 +1,6 @@
-use Rattle.std.proofs.Common.{◌≡◌, ◌<◌, refl, sym, ◌∙◌, arith, ℕ, false, get_or, Option, Some}
+use Rattle.std.proofs.Common.{◌≡◌, refl, sym, ◌∙◌, arith, ℕ, false, get_or, Option, Some}
 use Rattle.std.proofs.lemmas.List.{get_or_read}
-use Rattle.heap_plain.proofs.Shadings.{worklist_room, shades_one, shades_stay}
+use Rattle.heap_plain.proofs.Shadings.{worklist_room, shades_one}
 use Rattle.heap_plain.proofs.scanning.shade.Goals as goal
 
 same_some : (o : Option ℕ) (t r : ℕ) → o ≡ Some t → o ≡ Some r → r ≡ t

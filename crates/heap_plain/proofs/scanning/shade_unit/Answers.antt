@@ -1,4 +1,4 @@
-use Rattle.std.proofs.Common.{◌≡◌, ◌+◌, ap, ◌∙◌, sym, arith, add-one}
+use Rattle.std.proofs.Common.{◌+◌, ap, ◌∙◌, sym, arith, add-one}
 use Rattle.heap_plain.specs.Parts.{next_at}
 use Rattle.heap_plain.specs.Listing.{chained}
 use Rattle.heap_plain.proofs.Shadings.{shades_len, shades_join, unit_more, row_unit, unit_row}

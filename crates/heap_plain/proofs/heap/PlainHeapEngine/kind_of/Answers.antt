@@ -1,6 +1,5 @@
-use Rattle.std.proofs.Common.{◌≡◌, ap, ◌∙◌, sym, arith, Option, Some}
+use Rattle.std.proofs.Common.{◌≡◌, arith}
 use Rattle.std.proofs.lemmas.List.{get_or_read}
-use Rattle.heap_plain.specs.Types.{Kind}
 use Rattle.heap_plain.specs.Parts.{kind_at}
 use Rattle.heap_plain.proofs.RootSteps.{index_below}
 use Rattle.heap_plain.proofs.StoreSteps.{kind_is}

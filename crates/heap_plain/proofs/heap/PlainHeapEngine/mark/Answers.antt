@@ -1,6 +1,6 @@
 use Rattle.std.proofs.Common.{◌≡◌, ◌<◌, ◌≤◌, arith, get_or}
 use Rattle.std.proofs.lemmas.List.{get_or_read}
-use Rattle.heap_plain.proofs.MarkSlices.{mark_starts, head_below, head_named, chain_below, lead_named, worklist, mark_scans, sliced_invariant, sliced_appends, sliced_held}
+use Rattle.heap_plain.proofs.MarkSlices.{mark_starts, head_below, head_named, chain_below, lead_named, mark_scans, sliced_invariant, sliced_appends, sliced_held}
 use Rattle.heap_plain.proofs.heap.PlainHeapEngine.mark.Given.{Over}
 use Rattle.heap_plain.proofs.heap.PlainHeapEngine.mark.Goals.{then-loop-self-test+else-scanned-budget, else-loop-self-test}
 use Rattle.heap_plain.proofs.heap.PlainHeapEngine.mark.Goals as goal
