@@ -1,15 +1,18 @@
 -- The law of layout.
-use Rattle.std.proofs.Common.{◌≡◌, ℕ, zero, suc, ◌+◌, ◌-◌, ◌<◌, ◌≤◌, refl, sym, ap, ◌∙◌, inl, inr, arith, Bool, true, false, cond, ◌⊎◌, List, [], ◌∷◌, ◌++◌, length, take, Option, Some, slice_get}
-use Rattle.std.specs.List.{sum_by}
+use Rattle.std.proofs.Common.{◌≡◌, ℕ, zero, suc, ◌+◌, ◌-◌, ◌<◌, ◌≤◌, refl, sym, ap, ◌∙◌, subst, inl, inr, arith, Bool, true, false, cond, ◌⊎◌, List, [], ◌∷◌, ◌++◌, length, take, Option, Some, None, option_map, IfSome, slice_get}
+use Rattle.std.specs.List.{sum_by, find, position_or_len}
 use Rattle.std.proofs.lemmas.Bool.{cases_lt, cases_order, cases_Bool}
 use Rattle.std.proofs.lemmas.List.{append-nil, append_assoc}
+use Rattle.std.proofs.lemmas.List.Elements.{All-get_or}
+use Rattle.std.proofs.lemmas.List.Folds.{find_at}
 use Rattle.std.proofs.lemmas.List.Sums.{sum_by-cons}
-use Rattle.std.proofs.lemmas.Option.{same_Some}
+use Rattle.std.proofs.lemmas.Option.{same_Some, slice_get_within, get_or_from_slice_get}
 use Rattle.class_schema.specs.Types.{ClassId}
 use Rattle.class_schema.specs.Class.{Declaration, Schema}
-use Rattle.class_schema.specs.Layout.{Placed, is_ref, ref_count, plain_count, ref_slots, plain_slots, first_slot, layout, slot_of}
+use Rattle.class_schema.specs.Layout.{Placed, is_ref, ref_count, plain_count, ref_slots, plain_slots, first_slot, layout, slot_of, as_field}
 use Rattle.class_schema.specs.Ancestry.{fields}
-use Rattle.class_schema.specs.Lawful.{IsSchema}
+use Rattle.class_schema.specs.Table.{placed_fields, is_called, find_field}
+use Rattle.class_schema.specs.Lawful.{IsField, IsSchema, FitsIn}
 use Rattle.class_schema.specs.Laws.{Element, IsLaidOut, LaidOut}
 use Rattle.class_schema.proofs.Reading.{used_is}
 
@@ -199,3 +202,65 @@ module _ (t : Schema) (lawful : IsSchema t) (class : ClassId) (lt : class.0 < le
 
 pub laid_out_holds : LaidOut
 laid_out_holds t lawful class lt = is_laid_out t lawful class lt
+
+-- ---- the field that a search finds
+
+-- where the slots of a field end, by those of the fields before it
+fits_at : (slots : ℕ) (class_count : ℕ) (fs : List Declaration) (k : ℕ) (p : Placed) → 1 ≤ slots → ref_slots fs + plain_slots fs ≤ slots → IsField class_count p.declared
+    → slice_get fs k ≡ Some p.declared → p.first ≡ first_slot slots (take k fs) p.declared.kind
+    → (is_ref p.declared.kind ≡ true → p.first + p.declared.count ≤ ref_slots fs)
+    × (is_ref p.declared.kind ≡ false → ((slots - plain_slots fs) + p.declared.count ≤ p.first + 1) × (p.first < slots))
+fits_at slots class_count fs k p some room each at first = (refs, plain)
+  where
+    count_at_least : 1 ≤ p.declared.count
+    count_at_least = each.some
+
+    refs : is_ref p.declared.kind ≡ true → p.first + p.declared.count ≤ ref_slots fs
+    refs is =
+        let i = inside ref_count fs k p.declared at in
+        let count : ref_count p.declared ≡ p.declared.count = ap (λ b. cond b p.declared.count 0) is in
+        let here : p.first ≡ ref_slots (take k fs) = first ∙ ap (λ b. cond b (ref_slots (take k fs)) ((slots - 1) - plain_slots (take k fs))) is in
+        omega arith
+
+    plain : is_ref p.declared.kind ≡ false → ((slots - plain_slots fs) + p.declared.count ≤ p.first + 1) × (p.first < slots)
+    plain is =
+        let i = inside plain_count fs k p.declared at in
+        let count : plain_count p.declared ≡ p.declared.count = ap (λ b. cond b 0 p.declared.count) is in
+        let here : p.first ≡ (slots - 1) - plain_slots (take k fs) = first ∙ ap (λ b. cond b (ref_slots (take k fs)) ((slots - 1) - plain_slots (take k fs))) is in
+        let n = count_at_least in
+        (omega arith, omega arith)
+
+-- the field of this name lies within the slots of its class
+pub field_fits : (t : Schema) → IsSchema t → (class : ClassId) → class.0 < length t.classes → (name : List ℕ) → IfSome (find_field t class name) (FitsIn t class)
+unfolding find_field
+field_fits t lawful class lt name = go (find called (placed_fields t class)) refl
+  where
+    called : Placed → Bool
+    called p = is_called name p.declared
+
+    k : ℕ
+    k = position_or_len called (placed_fields t class)
+
+    is_field : (p : Placed) → slice_get (fields t.classes class) k ≡ Some p.declared → IsField (length t.classes) p.declared
+    is_field p at =
+        let fs : List Declaration = fields t.classes class in
+        let here = All-get_or (IsField (length t.classes)) fs k p.declared (slice_get_within fs k p.declared at) (lawful.each class lt).whole in
+        subst (IsField (length t.classes)) (get_or_from_slice_get fs k p.declared p.declared at) here
+
+    fits : (p : Placed) → slice_get (placed_fields t class) k ≡ Some p → FitsIn t class (as_field p)
+    fits p at =
+        let placed = placed_is t.slots [] (fields t.classes class) k p at in
+        let each : IsField (length t.classes) p.declared = is_field p placed.0 in
+        let all = room t lawful class lt in
+        let both = fits_at t.slots (length t.classes) (fields t.classes class) k p lawful.some_slots all each placed.0 placed.1 in
+        record {
+          target = each.target;
+          inside = λ r. let l = both.0 r in omega arith;
+          refs = both.0;
+          low = λ r. (both.1 r).0;
+          high = λ r. (both.1 r).1;
+        }
+
+    go : (o : Option Placed) → find called (placed_fields t class) ≡ o → IfSome (option_map as_field o) (FitsIn t class)
+    go None e = tt
+    go (Some p) e = fits p (sym (find_at called (placed_fields t class)) ∙ e)

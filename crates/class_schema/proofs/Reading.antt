@@ -314,7 +314,7 @@ ends_test classes class at of fall le way =
     one_answer {P = IsA (parents classes) class of} (at.0 == of.0) (is_a classes class of) (e.0, e.1) (test_is classes class of, is_test classes class of fall)
 
 -- the parent of a new class is a class
-found_low : (classes : List Class) (name : List ℕ) (id : ClassId) → find_class classes name ≡ Some id → id.0 < length classes
+pub found_low : (classes : List Class) (name : List ℕ) (id : ClassId) → find_class classes name ≡ Some id → id.0 < length classes
 unfolding find_class
 found_low classes name id e = go (nat_lt (position_or_len (is_named name) classes) (length classes)) refl e
   where

@@ -1,13 +1,13 @@
 -- What is true of each table.
-use Rattle.std.specs.Prelude.{◌≡◌, ◌≢◌, ℕ, ◌<◌, ◌≤◌, nat_lt, Bool, true, length, Option, Some, None, IsTrue, codes}
+use Rattle.std.specs.Prelude.{◌≡◌, ◌≢◌, ℕ, ◌+◌, ◌-◌, ◌<◌, ◌≤◌, nat_lt, Bool, true, false, length, Option, Some, None, IsTrue, codes}
 use Rattle.std.specs.List.{All, AllPairs}
 use Rattle.world_model.specs.LaneSteps.{is_readiness}
-use Rattle.class_schema.specs.Types.{ClassId, FieldKind}
+use Rattle.class_schema.specs.Types.{ClassId, Field, FieldKind}
 use Rattle.class_schema.specs.Types.kind
 use Rattle.class_schema.specs.Class.{Declaration, Schema}
-use Rattle.class_schema.specs.Layout.{used_slots}
+use Rattle.class_schema.specs.Layout.{is_ref, used_slots}
 use Rattle.class_schema.specs.Ancestry.{class_at, fields}
-use Rattle.class_schema.specs.Table.{id_of}
+use Rattle.class_schema.specs.Table.{id_of, kind_of}
 
 -- references are to objects of one of so many classes
 abbrev pub has_target : ℕ → FieldKind → Bool
@@ -44,3 +44,12 @@ pub record IsSchema (t : Schema) : Type 0 where
   pub object_line : (class_at t.classes (id_of 0)).line ≡ 0
   pub different : AllPairs (λ c d. c.name ≢ d.name) t.classes
   pub each : (id : ClassId) → id.0 < length t.classes → IsClass t id
+
+-- A field lies within the slots of its class: one of references in those below `refs`, upwards from its first;
+-- any other in the last `plain`, downwards from its first.
+pub record FitsIn (t : Schema) (class : ClassId) (field : Field) : Type 0 where
+  pub target : IsTrue (has_target (length t.classes) field.kind)
+  pub inside : is_ref field.kind ≡ true → field.first + field.count ≤ t.slots
+  pub refs : is_ref field.kind ≡ true → field.first + field.count ≤ (kind_of t class).refs
+  pub low : is_ref field.kind ≡ false → (t.slots - (kind_of t class).plain) + field.count ≤ field.first + 1
+  pub high : is_ref field.kind ≡ false → field.first < t.slots

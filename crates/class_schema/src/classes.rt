@@ -1,11 +1,11 @@
 //! The table of classes.
-ghost use Rattle.std.specs.Prelude.{◌≡◌, ◌∷◌, [], ◌<◌, ◌≤◌, ◌+◌, length, IfOk, OnOk, OnErr, IsTrue, Some, None, option_map, nat_lt, false};
+ghost use Rattle.std.specs.Prelude.{◌≡◌, ◌∷◌, [], ◌<◌, ◌≤◌, ◌+◌, length, IfOk, IfSome, OnOk, OnErr, IsTrue, Some, None, option_map, nat_lt, false};
 ghost use Rattle.world_model.specs.Sizes.{Sizes};
 ghost use Rattle.world_model.specs.LaneSteps.{is_lawful, is_readiness};
 ghost use Rattle.class_schema.specs.Ancestry.{object, class_at, parents, has_children, IsA, is_a, fields};
 ghost use Rattle.class_schema.specs.Layout.{used_slots};
 ghost use Rattle.class_schema.specs.Table.{find_class, taken, admitted, with_class, AddsClass, field_line, find_field, has_field, no_room, field_refusal, with_field, AddsField, SetsReady, kind_of};
-ghost use Rattle.class_schema.specs.Lawful.{has_target, IsSchema};
+ghost use Rattle.class_schema.specs.Lawful.{has_target, FitsIn, IsSchema};
 
 use crate::field::{Field, FieldKind};
 use crate::refusal::{AddErr, SchemaErr};
@@ -72,7 +72,8 @@ impl ClassTable {
 
     /// The class of this name; none exactly where no class has it.
     pub fn find_class(&self, name: &str) -> Option<ClassId>
-        ensures { result ≡ find_class self.now.classes name.now }
+        ensures class { result ≡ find_class self.now.classes name.now }
+        ensures known { IfSome result (λ id. id.0 < length self.now.classes) }
     {
         match self.classes.get_index_of(name) {
             Some(index) => Some(ClassId(index as u32)),
@@ -322,8 +323,10 @@ impl ClassTable {
     /// The field of this name, of the class or an ancestor; none exactly where none has it.
     pub fn find_field(&self, class: ClassId, name: &str) -> Option<Field>
         requires { class.0 < length self.now.classes }
-        ensures { result ≡ find_field self.now class name.now }
+        ensures field { result ≡ find_field self.now class name.now }
+        ensures fits { IfSome result (FitsIn self.now class) }
     {
+        let _ = &self.classes;
         match self.find_row(class, name) {
             Some(row) => Some(row.field),
             None => None,

@@ -10,14 +10,17 @@ use Rattle.std.proofs.lemmas.List.Sums.{prefix_len-le-length}
 use Rattle.std.proofs.Math.ListN.{get_or-map}
 use Rattle.world_model.specs.declared.kind.ClassId.{ClassId}
 use Rattle.std.specs.List.{AllByRecursion}
-use Rattle.class_schema.specs.Class.{Class, Schema}
+use Rattle.class_schema.specs.Class.{Class, Schema, Declaration}
 use Rattle.class_schema.specs.Ancestry.{object, class_at}
-use Rattle.class_schema.specs.Table.{find_class, added, admitted, added_below, child, is_named, id_of}
+use Rattle.class_schema.specs.Table.{find_class, has_field, added, admitted, added_below, child, with_own, with_field, field_added, field_refusal, unless_refused, is_named, id_of}
+use Rattle.class_schema.specs.declared.field.FieldKind.{FieldKind}
 use Rattle.class_schema.specs.declared.refusal.SchemaErr.{SchemaErr}
 use Rattle.level_script.specs.Commands.{said_by_line}
-use Rattle.level_script.specs.Context.{start, with_line, with_classes, with_lane, lane_at, lane_of, act_turn, if_said, turn, script_from}
-use Rattle.level_script.specs.Frames.{opened_after, fits_lane, fits, frames_after, are_framed, IsAtOnce, IsPlayable}
-use Rattle.level_script.specs.Lanes.{closed_lane, count_of, bound_new, root_of, bound_var, if_bound, lane_step, lane_index}
+use Rattle.level_script.specs.Context.{start, with_line, with_classes, elements_in, kind_found, field_known, field_counted, with_lane, lane_at, lane_of, act_turn, if_said, turn, script_from}
+use Rattle.level_script.specs.Frames.{opened_after, fits_spot, fits_target, fits_lane, fits, frames_after, are_framed, IsAtOnce, IsNamed, IsPlayable}
+use Rattle.level_script.specs.Forms.{is_identifier}
+use Rattle.level_script.proofs.Naming.{SaysName, SaysNameIfOk, identifier_bytes, line_says}
+use Rattle.level_script.specs.Lanes.{closed_lane, count_of, bound_new, root_of, bound_var, if_bound, element_in, spot_with, spot_found, Stepped, naming_none, naming, bound_target, set_at, set_in, get_at, get_in, put_at, put_in, take_at, take_in, print_of, open_step, close_step, new_step, root_step, print_step, lane_step, lane_index}
 use Rattle.level_script.specs.Lines.{input_lines}
 use Rattle.level_script.specs.Names.{number_of_name, number_in, with_name, has_number}
 use Rattle.level_script.specs.Reading.{line_turn, read_from, read_on, fault_at, outcome_of, script_of, script_of_lines}
@@ -34,6 +37,11 @@ use Rattle.level_script.specs.declared.said.Said.TheVariants as said
 use Rattle.level_script.specs.declared.script.Cmd.{Cmd}
 use Rattle.level_script.specs.declared.script.Cmd.TheVariants as cmd
 use Rattle.level_script.specs.declared.script.Line.{Line}
+use Rattle.level_script.specs.declared.script.Spot.{Spot}
+use Rattle.level_script.specs.declared.said.Place.{Place}
+use Rattle.level_script.specs.declared.said.FieldOf.{FieldOf}
+use Rattle.level_script.specs.declared.word.Number.{Number}
+use Rattle.level_script.specs.declared.word.Number.TheVariants.{Value, OutOfRange}
 use Rattle.level_script.specs.declared.script.Script.{Script}
 use Rattle.level_script.specs.declared.script.Who.{Who}
 use Rattle.level_script.specs.declared.script.Who.TheVariants as who
@@ -119,43 +127,59 @@ class_below classes name id e = position_below (is_named name) classes id.0 (cla
 
 -- ---- a step of a lane
 
--- what a step of a lane does to its frame and its variables, and that its command fits
-record StepFacts (classes : List Class) (lane left : LaneNames) (command : Cmd) : Type 0 where
-  opened : left.opened ≡ opened_after command lane.opened
-  grows : count_of lane ≤ count_of left
-  fit : (vars count : ℕ) → count_of left ≤ vars → length classes ≤ count → fits_lane vars count lane.opened command ≡ true
-
--- the same of an answer
-abbrev PairFacts : List Class → LaneNames → LaneNames × Cmd → Type 0
-PairFacts classes lane (left, command) = StepFacts classes lane left command
+-- what a step of a lane does to its frame, its variables and the names of fields, and that its command fits
+record StepFacts (classes : List Class) (lane : LaneNames) (fields : List (List ℕ)) (done : Stepped) : Type 0 where
+  opened : done.lane.opened ≡ opened_after done.command lane.opened
+  grows : count_of lane ≤ count_of done.lane
+  named : length fields ≤ length done.fields
+  fit : (vars count names : ℕ) → count_of done.lane ≤ vars → length classes ≤ count → length done.fields ≤ names → fits_lane vars count names lane.opened done.command ≡ true
 
 -- what is below is below more
 below_true : (m n k : ℕ) → m < n → n ≤ k → nat_lt m k ≡ true
 below_true m n k h most = lt-ltb m k (omega (arith, h, most))
 
+-- two tests that hold
+and_both : (a b : Bool) → a ≡ true → b ≡ true → (a && b) ≡ true
+and_both a b e f = (λ t. e t && f t)
+
+-- a line that names no field
+record PairFacts (classes : List Class) (lane left : LaneNames) (command : Cmd) : Type 0 where
+  opened : left.opened ≡ opened_after command lane.opened
+  grows : count_of lane ≤ count_of left
+  fit : (vars count names : ℕ) → count_of left ≤ vars → length classes ≤ count → fits_lane vars count names lane.opened command ≡ true
+
+abbrev FactsOf : List Class → LaneNames → LaneNames × Cmd → Type 0
+FactsOf classes lane (left, command) = PairFacts classes lane left command
+
+naming_facts : (classes : List Class) (lane : LaneNames) (fields : List (List ℕ)) (r : Result (LaneNames × Cmd) Cause) (done : Stepped) → ((left : LaneNames × Cmd) → r ≡ Ok left → FactsOf classes lane left) → naming_none fields r ≡ Ok done → StepFacts classes lane fields done
+naming_facts classes lane fields (Err why) done facts e = err_ok e
+naming_facts classes lane fields (Ok (left, command)) done facts e =
+    let f = facts (left, command) refl in
+    subst (StepFacts classes lane fields) (ok_same e) (record { opened = f.opened; grows = f.grows; named = omega arith; fit = λ vars count names few some named. f.fit vars count names few some })
+
 -- the frame opens
-open_facts : (classes : List Class) (lane : LaneNames) (b : Bool) → lane.opened ≡ b → (left : LaneNames × Cmd) → cond b (Err cause.Frame) (Ok (record lane { opened = true }, cmd.Open)) ≡ Ok left → PairFacts classes lane left
+open_facts : (classes : List Class) (lane : LaneNames) (b : Bool) → lane.opened ≡ b → (left : LaneNames × Cmd) → cond b (Err cause.Frame) (Ok (record lane { opened = true }, cmd.Open)) ≡ Ok left → FactsOf classes lane left
 open_facts classes lane true is left e = err_ok e
-open_facts classes lane false is left e = subst (PairFacts classes lane) (ok_same e) (record { opened = refl; grows = omega arith; fit = λ vars count few some. ap not is })
+open_facts classes lane false is left e = subst (FactsOf classes lane) (ok_same e) (record { opened = refl; grows = omega arith; fit = λ vars count names few some. ap not is })
 
 -- the frame closes
-close_facts : (classes : List Class) (lane : LaneNames) (b : Bool) → lane.opened ≡ b → (left : LaneNames × Cmd) → cond b (Ok (record { opened = false; names = lane.names; bound = [] }, cmd.Close)) (Err cause.Frame) ≡ Ok left → PairFacts classes lane left
+close_facts : (classes : List Class) (lane : LaneNames) (b : Bool) → lane.opened ≡ b → (left : LaneNames × Cmd) → cond b (Ok (record { opened = false; names = lane.names; bound = [] }, cmd.Close)) (Err cause.Frame) ≡ Ok left → FactsOf classes lane left
 close_facts classes lane false is left e = err_ok e
-close_facts classes lane true is left e = subst (PairFacts classes lane) (ok_same e) (record { opened = refl; grows = omega arith; fit = λ vars count few some. is })
+close_facts classes lane true is left e = subst (FactsOf classes lane) (ok_same e) (record { opened = refl; grows = omega arith; fit = λ vars count names few some. is })
 
 -- a variable is bound to a class that is known
-bound_facts : (classes : List Class) (lane : LaneNames) (var class : List ℕ) (o : Option ClassId) → lane.opened ≡ true → find_class classes class ≡ o → (left : LaneNames × Cmd) → bound_new lane var o ≡ Ok left → PairFacts classes lane left
+bound_facts : (classes : List Class) (lane : LaneNames) (var class : List ℕ) (o : Option ClassId) → lane.opened ≡ true → find_class classes class ≡ o → (left : LaneNames × Cmd) → bound_new lane var o ≡ Ok left → FactsOf classes lane left
 bound_facts classes lane var class None is found left e = err_ok e
 bound_facts classes lane var class (Some id) is found left e =
-    subst (PairFacts classes lane) (ok_same e) (record {
+    subst (FactsOf classes lane) (ok_same e) (record {
       opened = refl;
       grows = names_grow lane.names var;
-      fit = λ vars count few some.
+      fit = λ vars count names few some.
           (λ t. is t && below_true (number_in lane.names var) (length (with_name lane.names var)) vars (number_below lane.names var) few t && below_true id.0 (length classes) count (class_below classes class id found) some t);
     })
 
 -- a variable is bound
-new_facts : (classes : List Class) (lane : LaneNames) (var class : List ℕ) (b : Bool) → lane.opened ≡ b → (left : LaneNames × Cmd) → cond b (bound_new lane var (find_class classes class)) (Err cause.Frame) ≡ Ok left → PairFacts classes lane left
+new_facts : (classes : List Class) (lane : LaneNames) (var class : List ℕ) (b : Bool) → lane.opened ≡ b → (left : LaneNames × Cmd) → cond b (bound_new lane var (find_class classes class)) (Err cause.Frame) ≡ Ok left → FactsOf classes lane left
 new_facts classes lane var class false is left e = err_ok e
 new_facts classes lane var class true is left e = bound_facts classes lane var class (find_class classes class) is refl left e
 
@@ -168,28 +192,151 @@ if_bound_some bound (Some m) n e = has_some (has_number bound m) e
     has_some true e = e
     has_some false e = absurd (cc)
 
+-- that number is below the number of variables
+bound_below : (lane : LaneNames) (var : List ℕ) (n : ℕ) → bound_var lane var ≡ Some n → n < count_of lane
+bound_below lane var n e = found_below lane.names var n (if_bound_some lane.bound (number_of_name lane.names var) n e)
+
 -- the object of a variable that is bound becomes a root, or is one no longer
-rooted_facts : (classes : List Class) (lane : LaneNames) (var : List ℕ) (on : Bool) (o : Option ℕ) → lane.opened ≡ true → bound_var lane var ≡ o → (left : LaneNames × Cmd) → root_of lane on o ≡ Ok left → PairFacts classes lane left
+rooted_facts : (classes : List Class) (lane : LaneNames) (var : List ℕ) (on : Bool) (o : Option ℕ) → lane.opened ≡ true → bound_var lane var ≡ o → (left : LaneNames × Cmd) → root_of lane on o ≡ Ok left → FactsOf classes lane left
 rooted_facts classes lane var on None is found left e = err_ok e
 rooted_facts classes lane var on (Some n) is found left e =
-    let below = found_below lane.names var n (if_bound_some lane.bound (number_of_name lane.names var) n found) in
-    subst (PairFacts classes lane) (ok_same e) (record {
-      opened = refl;
-      grows = omega arith;
-      fit = λ vars count few some. (λ t. is t && below_true n (length lane.names) vars below few t);
-    })
+    let below = bound_below lane var n found in
+    subst (FactsOf classes lane) (ok_same e) (record { opened = refl; grows = omega arith; fit = λ vars count names few some. (λ t. is t && below_true n (length lane.names) vars below few t) })
 
--- the same of a variable that may be bound
-root_facts : (classes : List Class) (lane : LaneNames) (var : List ℕ) (on b : Bool) → lane.opened ≡ b → (left : LaneNames × Cmd) → cond b (root_of lane on (bound_var lane var)) (Err cause.Frame) ≡ Ok left → PairFacts classes lane left
+root_facts : (classes : List Class) (lane : LaneNames) (var : List ℕ) (on b : Bool) → lane.opened ≡ b → (left : LaneNames × Cmd) → cond b (root_of lane on (bound_var lane var)) (Err cause.Frame) ≡ Ok left → FactsOf classes lane left
 root_facts classes lane var on false is left e = err_ok e
 root_facts classes lane var on true is left e = rooted_facts classes lane var on (bound_var lane var) is refl left e
 
+-- the object of a variable that is bound is told
+printed_facts : (classes : List Class) (lane : LaneNames) (var : List ℕ) (o : Option ℕ) → lane.opened ≡ true → bound_var lane var ≡ o → (left : LaneNames × Cmd) → print_of lane o ≡ Ok left → FactsOf classes lane left
+printed_facts classes lane var None is found left e = err_ok e
+printed_facts classes lane var (Some n) is found left e =
+    let below = bound_below lane var n found in
+    subst (FactsOf classes lane) (ok_same e) (record { opened = refl; grows = omega arith; fit = λ vars count names few some. (λ t. is t && below_true n (length lane.names) vars below few t) })
+
+print_facts : (classes : List Class) (lane : LaneNames) (var : List ℕ) (b : Bool) → lane.opened ≡ b → (left : LaneNames × Cmd) → cond b (print_of lane (bound_var lane var)) (Err cause.Frame) ≡ Ok left → FactsOf classes lane left
+print_facts classes lane var false is left e = err_ok e
+print_facts classes lane var true is left e = printed_facts classes lane var (bound_var lane var) is refl left e
+
+-- ---- elements of fields
+
+-- where a spot is found, its variable is bound and its field has a name
+record SpotFacts (lane : LaneNames) (fields : List (List ℕ)) (name : List ℕ) (spot : Spot) : Type 0 where
+  var : spot.var < count_of lane
+  field : spot.field < length (with_name fields name)
+
+spot_facts : (lane : LaneNames) (fields : List (List ℕ)) (place : Place) (element : ℕ) (b : Bool) (o : Option ℕ) (spot : Spot) → bound_var lane place.var ≡ o → spot_with fields place.field element b o ≡ Some spot → SpotFacts lane fields place.field spot
+spot_facts lane fields place element false o spot is e = absurd cc
+spot_facts lane fields place element true None spot is e = absurd cc
+spot_facts lane fields place element true (Some var) spot is e = subst (SpotFacts lane fields place.field) (some_same e) (record { var = bound_below lane place.var var is; field = number_below fields place.field })
+
+-- it fits, where there are no fewer variables and names
+spot_fits : (lane : LaneNames) (fields : List (List ℕ)) (name : List ℕ) (spot : Spot) (vars names : ℕ) → SpotFacts lane fields name spot → count_of lane ≤ vars → length (with_name fields name) ≤ names → fits_spot vars names spot ≡ true
+spot_fits lane fields name spot vars names h few named = and_both _ _ (below_true spot.var (count_of lane) vars h.var few) (below_true spot.field (length (with_name fields name)) names h.field named)
+
+target_fits : (lane : LaneNames) (to : Option (List ℕ)) (target : Option ℕ) (vars : ℕ) → bound_target lane to ≡ Some target → count_of lane ≤ vars → fits_target vars target ≡ true
+target_fits lane None target vars e few = subst (λ (t : Option ℕ). fits_target vars t ≡ true) (some_same e) refl
+target_fits lane (Some name) target vars e few = go (bound_var lane name) refl e
+  where
+    go : (o : Option ℕ) → bound_var lane name ≡ o → option_map Some o ≡ Some target → fits_target vars target ≡ true
+    go None is e = absurd cc
+    go (Some n) is e = subst (λ (t : Option ℕ). fits_target vars t ≡ true) (some_same e) (below_true n (count_of lane) vars (bound_below lane name n is) few)
+
+module _ (classes : List Class) (lane : LaneNames) (fields : List (List ℕ)) where
+  -- what an answer to a line with a spot says
+  abbrev Fits : Result Stepped Cause → Type 0
+  Fits r = (done : Stepped) → r ≡ Ok done → StepFacts classes lane fields done
+
+  set_at_facts : (place : Place) (to : Option (List ℕ)) (s : Option Spot) (t : Option (Option ℕ)) → lane.opened ≡ true → ((spot : Spot) → s ≡ Some spot → SpotFacts lane fields place.field spot) → bound_target lane to ≡ t → Fits (set_at lane fields place.field s t)
+  set_at_facts place to None t is spots target done e = err_ok e
+  set_at_facts place to (Some spot) None is spots target done e = err_ok e
+  set_at_facts place to (Some spot) (Some var) is spots target done e =
+      subst (StepFacts classes lane fields) (ok_same e) (record {
+        opened = refl;
+        grows = omega arith;
+        named = names_grow fields place.field;
+        fit = λ vars count names few some named. and_both _ _ (and_both _ _ is (spot_fits lane fields place.field spot vars names (spots spot refl) few named)) (target_fits lane to var vars target few);
+      })
+
+  set_facts : (place : Place) (to : Option (List ℕ)) (o : Option ℕ) (b : Bool) → lane.opened ≡ b → ((element : ℕ) (spot : Spot) → spot_found classes lane fields place element ≡ Some spot → SpotFacts lane fields place.field spot) → Fits (set_in classes lane fields place to o)
+  set_facts place to None b is spots done e = err_ok e
+  set_facts place to (Some element) b is spots done e = go b is e
+    where
+      go : (b : Bool) → lane.opened ≡ b → cond lane.opened (set_at lane fields place.field (spot_found classes lane fields place element) (bound_target lane to)) (Err cause.Frame) ≡ Ok done → StepFacts classes lane fields done
+      go false is e = err_ok (ap (λ (c : Bool). cond c (set_at lane fields place.field (spot_found classes lane fields place element) (bound_target lane to)) (Err cause.Frame)) (sym is) ∙ e)
+      go true is e = set_at_facts place to (spot_found classes lane fields place element) (bound_target lane to) is (spots element) refl done (ap (λ (c : Bool). cond c (set_at lane fields place.field (spot_found classes lane fields place element) (bound_target lane to)) (Err cause.Frame)) (sym is) ∙ e)
+
+  get_at_facts : (var : List ℕ) (place : Place) (s : Option Spot) → lane.opened ≡ true → ((spot : Spot) → s ≡ Some spot → SpotFacts lane fields place.field spot) → Fits (get_at lane fields place.field var s)
+  get_at_facts var place None is spots done e = err_ok e
+  get_at_facts var place (Some spot) is spots done e =
+      subst (StepFacts classes lane fields) (ok_same e) (record {
+        opened = refl;
+        grows = names_grow lane.names var;
+        named = names_grow fields place.field;
+        fit = λ vars count names few some named. and_both _ _ (and_both _ _ is (below_true (number_in lane.names var) (length (with_name lane.names var)) vars (number_below lane.names var) few))
+            (spot_fits lane fields place.field spot vars names (spots spot refl) (omega (arith, few, names_grow lane.names var)) named);
+      })
+
+  get_facts : (var : List ℕ) (place : Place) (o : Option ℕ) (b : Bool) → lane.opened ≡ b → ((element : ℕ) (spot : Spot) → spot_found classes lane fields place element ≡ Some spot → SpotFacts lane fields place.field spot) → Fits (get_in classes lane fields var place o)
+  get_facts var place None b is spots done e = err_ok e
+  get_facts var place (Some element) b is spots done e = go b is e
+    where
+      go : (b : Bool) → lane.opened ≡ b → cond lane.opened (get_at lane fields place.field var (spot_found classes lane fields place element)) (Err cause.Frame) ≡ Ok done → StepFacts classes lane fields done
+      go false is e = err_ok (ap (λ (c : Bool). cond c (get_at lane fields place.field var (spot_found classes lane fields place element)) (Err cause.Frame)) (sym is) ∙ e)
+      go true is e = get_at_facts var place (spot_found classes lane fields place element) is (spots element) done (ap (λ (c : Bool). cond c (get_at lane fields place.field var (spot_found classes lane fields place element)) (Err cause.Frame)) (sym is) ∙ e)
+
+  put_at_facts : (place : Place) (value : ℕ) (s : Option Spot) → lane.opened ≡ true → ((spot : Spot) → s ≡ Some spot → SpotFacts lane fields place.field spot) → Fits (put_at lane fields place.field value s)
+  put_at_facts place value None is spots done e = err_ok e
+  put_at_facts place value (Some spot) is spots done e =
+      subst (StepFacts classes lane fields) (ok_same e) (record {
+        opened = refl;
+        grows = omega arith;
+        named = names_grow fields place.field;
+        fit = λ vars count names few some named. and_both _ _ is (spot_fits lane fields place.field spot vars names (spots spot refl) few named);
+      })
+
+  put_facts : (place : Place) (value : Number) (o : Option ℕ) (b : Bool) → lane.opened ≡ b → ((element : ℕ) (spot : Spot) → spot_found classes lane fields place element ≡ Some spot → SpotFacts lane fields place.field spot) → Fits (put_in classes lane fields place o value)
+  put_facts place value None b is spots done e = err_ok e
+  put_facts place OutOfRange (Some element) b is spots done e = err_ok e
+  put_facts place (Value value) (Some element) b is spots done e = go b is e
+    where
+      go : (b : Bool) → lane.opened ≡ b → cond lane.opened (put_at lane fields place.field value (spot_found classes lane fields place element)) (Err cause.Frame) ≡ Ok done → StepFacts classes lane fields done
+      go false is e = err_ok (ap (λ (c : Bool). cond c (put_at lane fields place.field value (spot_found classes lane fields place element)) (Err cause.Frame)) (sym is) ∙ e)
+      go true is e = put_at_facts place value (spot_found classes lane fields place element) is (spots element) done (ap (λ (c : Bool). cond c (put_at lane fields place.field value (spot_found classes lane fields place element)) (Err cause.Frame)) (sym is) ∙ e)
+
+  take_at_facts : (place : Place) (s : Option Spot) → lane.opened ≡ true → ((spot : Spot) → s ≡ Some spot → SpotFacts lane fields place.field spot) → Fits (take_at lane fields place.field s)
+  take_at_facts place None is spots done e = err_ok e
+  take_at_facts place (Some spot) is spots done e =
+      subst (StepFacts classes lane fields) (ok_same e) (record {
+        opened = refl;
+        grows = omega arith;
+        named = names_grow fields place.field;
+        fit = λ vars count names few some named. and_both _ _ is (spot_fits lane fields place.field spot vars names (spots spot refl) few named);
+      })
+
+  take_facts : (place : Place) (o : Option ℕ) (b : Bool) → lane.opened ≡ b → ((element : ℕ) (spot : Spot) → spot_found classes lane fields place element ≡ Some spot → SpotFacts lane fields place.field spot) → Fits (take_in classes lane fields place o)
+  take_facts place None b is spots done e = err_ok e
+  take_facts place (Some element) b is spots done e = go b is e
+    where
+      go : (b : Bool) → lane.opened ≡ b → cond lane.opened (take_at lane fields place.field (spot_found classes lane fields place element)) (Err cause.Frame) ≡ Ok done → StepFacts classes lane fields done
+      go false is e = err_ok (ap (λ (c : Bool). cond c (take_at lane fields place.field (spot_found classes lane fields place element)) (Err cause.Frame)) (sym is) ∙ e)
+      go true is e = take_at_facts place (spot_found classes lane fields place element) is (spots element) done (ap (λ (c : Bool). cond c (take_at lane fields place.field (spot_found classes lane fields place element)) (Err cause.Frame)) (sym is) ∙ e)
+
+-- each spot that is found
+found_facts : (classes : List Class) (lane : LaneNames) (fields : List (List ℕ)) (place : Place) (element : ℕ) (spot : Spot) → spot_found classes lane fields place element ≡ Some spot → SpotFacts lane fields place.field spot
+found_facts classes lane fields place element spot e = spot_facts lane fields place element (has_field classes place.field) (bound_var lane place.var) spot refl e
+
 -- each step
-step_facts : (classes : List Class) (lane : LaneNames) (what : Does) (left : LaneNames × Cmd) → lane_step classes lane what ≡ Ok left → PairFacts classes lane left
-step_facts classes lane does.Open left e = open_facts classes lane lane.opened refl left e
-step_facts classes lane does.Close left e = close_facts classes lane lane.opened refl left e
-step_facts classes lane (does.New var class) left e = new_facts classes lane var class lane.opened refl left e
-step_facts classes lane (does.Root var on) left e = root_facts classes lane var on lane.opened refl left e
+step_facts : (classes : List Class) (lane : LaneNames) (fields : List (List ℕ)) (what : Does) (done : Stepped) → lane_step classes lane fields what ≡ Ok done → StepFacts classes lane fields done
+step_facts classes lane fields does.Open done e = naming_facts classes lane fields (open_step lane) done (open_facts classes lane lane.opened refl) e
+step_facts classes lane fields does.Close done e = naming_facts classes lane fields (close_step lane) done (close_facts classes lane lane.opened refl) e
+step_facts classes lane fields (does.New var class) done e = naming_facts classes lane fields (new_step classes lane var class) done (new_facts classes lane var class lane.opened refl) e
+step_facts classes lane fields (does.Root var on) done e = naming_facts classes lane fields (root_step lane var on) done (root_facts classes lane var on lane.opened refl) e
+step_facts classes lane fields (does.Set place to) done e = set_facts classes lane fields place to (element_in place.element) lane.opened refl (found_facts classes lane fields place) done e
+step_facts classes lane fields (does.Get var place) done e = get_facts classes lane fields var place (element_in place.element) lane.opened refl (found_facts classes lane fields place) done e
+step_facts classes lane fields (does.Put place value) done e = put_facts classes lane fields place value (element_in place.element) lane.opened refl (found_facts classes lane fields place) done e
+step_facts classes lane fields (does.Take place) done e = take_facts classes lane fields place (element_in place.element) lane.opened refl (found_facts classes lane fields place) done e
+step_facts classes lane fields (does.Print var) done e = naming_facts classes lane fields (print_step lane var) done (print_facts classes lane var lane.opened refl) e
 
 -- ---- lines after one another
 
@@ -210,12 +357,12 @@ both true b h = (refl, h)
 both false b h = absurd (cc)
 
 -- one more line that fits
-framed_more : (vars : List ℕ) (classes : ℕ) (frames : List Bool) (lines : List Line) (line : Line) → are_framed vars classes frames lines ≡ true → fits vars classes (frames_through frames lines) line.who line.cmd ≡ true → are_framed vars classes frames (lines ++ line ∷ []) ≡ true
+framed_more : (vars : List ℕ) (classes fields : ℕ) (frames : List Bool) (lines : List Line) (line : Line) → are_framed vars classes fields frames lines ≡ true → fits vars classes fields (frames_through frames lines) line.who line.cmd ≡ true → are_framed vars classes fields frames (lines ++ line ∷ []) ≡ true
 unfolding are_framed frames_through
-framed_more vars classes frames [] line was now = ap (λ b. b && true) now
-framed_more vars classes frames (l ∷ lines) line was now =
-    let parts = both (fits vars classes frames l.who l.cmd) (are_framed vars classes (frames_after frames l.who l.cmd) lines) was in
-    (λ t. parts.0 t && framed_more vars classes (frames_after frames l.who l.cmd) lines line parts.1 now t)
+framed_more vars classes fields frames [] line was now = ap (λ b. b && true) now
+framed_more vars classes fields frames (l ∷ lines) line was now =
+    let parts = both (fits vars classes fields frames l.who l.cmd) (are_framed vars classes fields (frames_after frames l.who l.cmd) lines) was in
+    (λ t. parts.0 t && framed_more vars classes fields (frames_after frames l.who l.cmd) lines line parts.1 now t)
 
 -- the lanes have no more variables than these
 abbrev Within : List LaneNames → List ℕ → Type 0
@@ -225,33 +372,36 @@ Within lanes vars = (l : ℕ) → count_of (get_or lanes l closed_lane) ≤ get_
 record Good (limits : Limits) (c : Context) : Type 0 where
   lanes : length c.lanes ≡ limits.lanes
   now : frames_through (replicate limits.lanes false) c.lines ≡ map (λ lane. lane.opened) c.lanes
-  framed : (vars : List ℕ) (classes : ℕ) → Within c.lanes vars → length c.classes.classes ≤ classes → are_framed vars classes (replicate limits.lanes false) c.lines ≡ true
+  framed : (vars : List ℕ) (classes fields : ℕ) → Within c.lanes vars → length c.classes.classes ≤ classes → length c.fields ≤ fields → are_framed vars classes fields (replicate limits.lanes false) c.lines ≡ true
   slots : c.classes.slots ≡ limits.slots
   some : 0 < length c.classes.classes
   at_once : AllByRecursion IsAtOnce c.classes.classes
+  named : AllByRecursion IsNamed c.classes.classes
 
--- a context with other lanes
-abbrev changed : Context → List LaneNames → Context
-changed c lanes = record { classes = c.classes; in_header = c.in_header; lanes = lanes; lines = c.lines }
+-- a context with other lanes and names of fields
+abbrev changed : Context → List LaneNames → List (List ℕ) → Context
+changed c lanes fields = record { classes = c.classes; in_header = c.in_header; lanes = lanes; fields = fields; lines = c.lines }
 
 -- a line that fits keeps it
-good_push : (limits : Limits) (c : Context) (lanes : List LaneNames) (number : ℕ) (by : Who) (command : Cmd) → Good limits c → length lanes ≡ length c.lanes →
+good_push : (limits : Limits) (c : Context) (lanes : List LaneNames) (fields : List (List ℕ)) (number : ℕ) (by : Who) (command : Cmd) → Good limits c → length lanes ≡ length c.lanes →
     frames_after (map (λ lane. lane.opened) c.lanes) by command ≡ map (λ lane. lane.opened) lanes →
     ((l : ℕ) → count_of (get_or c.lanes l closed_lane) ≤ count_of (get_or lanes l closed_lane)) →
-    ((vars : List ℕ) (classes : ℕ) → Within lanes vars → length c.classes.classes ≤ classes → fits vars classes (map (λ lane. lane.opened) c.lanes) by command ≡ true) →
-    Good limits (with_line (changed c lanes) number by command)
-good_push limits c lanes number by command g same frames grow fit =
+    length c.fields ≤ length fields →
+    ((vars : List ℕ) (classes names : ℕ) → Within lanes vars → length c.classes.classes ≤ classes → length fields ≤ names → fits vars classes names (map (λ lane. lane.opened) c.lanes) by command ≡ true) →
+    Good limits (with_line (changed c lanes fields) number by command)
+good_push limits c lanes fields number by command g same frames grow more fit =
     let line : Line = record { number = number; who = by; cmd = command } in
     record {
       lanes = same ∙ g.lanes;
       now = through_more (replicate limits.lanes false) c.lines line ∙ ap (λ f. frames_after f by command) g.now ∙ frames;
-      framed = λ vars classes within few.
-          framed_more vars classes (replicate limits.lanes false) c.lines line
-          (g.framed vars classes (λ l. omega (arith, grow l, within l)) few)
-          (ap (λ f. fits vars classes f by command) g.now ∙ fit vars classes within few);
+      framed = λ vars classes names within few named.
+          framed_more vars classes names (replicate limits.lanes false) c.lines line
+          (g.framed vars classes names (λ l. omega (arith, grow l, within l)) few (omega (arith, more, named)))
+          (ap (λ f. fits vars classes names f by command) g.now ∙ fit vars classes names within few named);
       slots = g.slots;
       some = g.some;
       at_once = g.at_once;
+      named = g.named;
     }
 
 -- an item that is there
@@ -269,31 +419,34 @@ set_grows (y ∷ ys) (suc i) x h zero = omega arith
 set_grows (y ∷ ys) (suc i) x h (suc l) = set_grows ys i x h l
 
 -- a line of a lane fits
-good_lane : (limits : Limits) (c : Context) (number i : ℕ) (lane left : LaneNames) (command : Cmd) → Good limits c → slice_get c.lanes i ≡ Some lane → StepFacts c.classes.classes lane left command →
-    Good limits (with_line (changed c (slice_set c.lanes i left)) number (who.Lane i) command)
-good_lane limits c number i lane left command g is facts =
+good_lane : (limits : Limits) (c : Context) (number i : ℕ) (lane : LaneNames) (done : Stepped) → Good limits c → slice_get c.lanes i ≡ Some lane → StepFacts c.classes.classes lane c.fields done →
+    Good limits (with_line (changed c (slice_set c.lanes i done.lane) done.fields) number (who.Lane i) done.command)
+good_lane limits c number i lane done g is facts =
+    let left = done.lane in
+    let command = done.command in
     let there = got c.lanes i lane closed_lane is in
     let opened_here : slice_index_or (map (λ lane. lane.opened) c.lanes) i false ≡ lane.opened = get_or-map (λ (lane : LaneNames). lane.opened) c.lanes i closed_lane ∙ ap (λ (lane : LaneNames). lane.opened) there.1 in
-    good_push limits c (slice_set c.lanes i left) number (who.Lane i) command g
+    good_push limits c (slice_set c.lanes i left) done.fields number (who.Lane i) command g
     (length-set c.lanes i left)
     (ap (λ o. slice_set (map (λ lane. lane.opened) c.lanes) i (opened_after command o)) opened_here
     ∙ ap (slice_set (map (λ lane. lane.opened) c.lanes) i) (sym facts.opened)
     ∙ sym (map-set (λ (lane : LaneNames). lane.opened) c.lanes i left))
     (set_grows c.lanes i left (let P : LaneNames → Type 0 = λ l. count_of l ≤ count_of left in subst P (sym there.1) facts.grows))
-    (λ vars classes within few.
+    facts.named
+    (λ vars classes names within few named.
     let inside : nat_lt i (length (map (λ lane. lane.opened) c.lanes)) ≡ true = lt-ltb i (length (map (λ lane. lane.opened) c.lanes)) (rw length-map there.0) in
     let most : count_of left ≤ get_or vars i 0 = (let P : LaneNames → Type 0 = λ l. count_of l ≤ get_or vars i 0 in subst P (get_or-set_same c.lanes i left closed_lane there.0) (within i)) in
-    (λ t. inside t && fits_lane (slice_index vars i) classes (opened_here t) command) ∙ facts.fit (get_or vars i 0) classes most few)
+    (λ t. inside t && fits_lane (slice_index vars i) classes names (opened_here t) command) ∙ facts.fit (get_or vars i 0) classes names most few named)
 
 -- a step of a lane keeps it
-good_with_lane : (limits : Limits) (c next : Context) (number i : ℕ) (lane : LaneNames) (what : Does) (r : Result (LaneNames × Cmd) Cause) → Good limits c → slice_get c.lanes i ≡ Some lane → lane_step c.classes.classes lane what ≡ r → with_lane number c i r ≡ Ok next → Good limits next
+good_with_lane : (limits : Limits) (c next : Context) (number i : ℕ) (lane : LaneNames) (what : Does) (r : Result Stepped Cause) → Good limits c → slice_get c.lanes i ≡ Some lane → lane_step c.classes.classes lane c.fields what ≡ r → with_lane number c i r ≡ Ok next → Good limits next
 good_with_lane limits c next number i lane what (Err why) g is step e = err_ok e
-good_with_lane limits c next number i lane what (Ok (left, command)) g is step e = subst (Good limits) (ok_same e) (good_lane limits c number i lane left command g is (step_facts c.classes.classes lane what (left, command) step))
+good_with_lane limits c next number i lane what (Ok done) g is step e = subst (Good limits) (ok_same e) (good_lane limits c number i lane done g is (step_facts c.classes.classes lane c.fields what done step))
 
 -- so does a line of a lane that is there
 good_lane_at : (limits : Limits) (c next : Context) (number i : ℕ) (what : Does) (o : Option LaneNames) → Good limits c → slice_get c.lanes i ≡ o → lane_at number c i o what ≡ Ok next → Good limits next
 good_lane_at limits c next number i what None g is e = err_ok e
-good_lane_at limits c next number i what (Some lane) g is e = good_with_lane limits c next number i lane what (lane_step c.classes.classes lane what) g is refl e
+good_lane_at limits c next number i what (Some lane) g is e = good_with_lane limits c next number i lane what (lane_step c.classes.classes lane c.fields what) g is refl e
 
 -- and one of a number that may name a lane
 good_lane_of : (limits : Limits) (c next : Context) (number : ℕ) (what : Does) (o : Option ℕ) → Good limits c → lane_of number c o what ≡ Ok next → Good limits next
@@ -302,30 +455,60 @@ good_lane_of limits c next number what (Some i) g e = good_lane_at limits c next
 
 -- ---- the header
 
--- what a line of the header leaves of the table: no fewer classes, the slots, and classes that are ready at once
+-- what a line of the header leaves of the table: no fewer classes, the slots, and classes that are ready at once and have identifiers as names
 record TableGrows (old new : Schema) : Type 0 where
   classes : length old.classes ≤ length new.classes
   slots : new.slots ≡ old.slots
   at_once : AllByRecursion IsAtOnce old.classes → AllByRecursion IsAtOnce new.classes
+  named : AllByRecursion IsNamed old.classes → AllByRecursion IsNamed new.classes
 
--- the class at a place is ready at once where all are
-at_once_there : (classes : List Class) (i : ℕ) → AllByRecursion IsAtOnce classes → IsAtOnce (slice_index_or classes i object)
-at_once_there [] i h = refl
-at_once_there (c ∷ classes) zero h = h.0
-at_once_there (c ∷ classes) (suc i) h = at_once_there classes i h.1
+-- what is so of each class, and of `Object`
+module _ (P : Class → Type 0) (first : P object) where
+  -- is so of the class at a place
+  all_there : (classes : List Class) (i : ℕ) → AllByRecursion P classes → P (slice_index_or classes i object)
+  all_there [] i h = first
+  all_there (c ∷ classes) zero h = h.0
+  all_there (c ∷ classes) (suc i) h = all_there classes i h.1
 
--- so is one more
-at_once_more : (classes : List Class) (c : Class) → AllByRecursion IsAtOnce classes → IsAtOnce c → AllByRecursion IsAtOnce (classes ++ c ∷ [])
-at_once_more [] c h one = (one, tt)
-at_once_more (d ∷ classes) c h one = (h.0, at_once_more classes c h.1 one)
+  -- and of one more
+  all_more : (classes : List Class) (c : Class) → AllByRecursion P classes → P c → AllByRecursion P (classes ++ c ∷ [])
+  all_more [] c h one = (one, tt)
+  all_more (d ∷ classes) c h one = (h.0, all_more classes c h.1 one)
 
-added_grows : (t more : Schema) (line : ℕ) (name : List ℕ) (r : Result ClassId SchemaErr) → added_below t line name r ≡ Ok more → TableGrows t more
-added_grows t more line name (Err refusal) e = err_ok e
-added_grows t more line name (Ok parent) e =
+  -- and of one that is changed
+  all_set : (classes : List Class) (i : ℕ) (c : Class) → AllByRecursion P classes → P c → AllByRecursion P (slice_set classes i c)
+  all_set [] i c h one = tt
+  all_set (d ∷ classes) zero c h one = (one, h.1)
+  all_set (d ∷ classes) (suc i) c h one = (h.0, all_set classes i c h.1 one)
+
+-- `Object` has an identifier as its name
+object_named : IsNamed object
+object_named = record { identifier = refl; bytes = refl }
+
+-- so has a class with one more field
+own_named : (class : Class) (field : Declaration) → IsNamed class → IsNamed (with_own class field)
+own_named class field h = record { identifier = h.identifier; bytes = h.bytes }
+
+added_grows : (t more : Schema) (line : ℕ) (name : List ℕ) (r : Result ClassId SchemaErr) → is_identifier name ≡ true → added_below t line name r ≡ Ok more → TableGrows t more
+added_grows t more line name (Err refusal) is e = err_ok e
+added_grows t more line name (Ok parent) is e =
+    let new : Class = child t.classes line name parent in
     subst (TableGrows t) (ok_same e) (record {
-      classes = omega (arith, length_push t.classes (child t.classes line name parent));
+      classes = omega (arith, length_push t.classes new);
       slots = refl;
-      at_once = λ h. at_once_more t.classes (child t.classes line name parent) h (at_once_there t.classes parent.0 h);
+      at_once = λ h. all_more IsAtOnce refl t.classes new h (all_there IsAtOnce refl t.classes parent.0 h);
+      named = λ h. all_more IsNamed object_named t.classes new h (record { identifier = is; bytes = identifier_bytes name is });
+    })
+
+fielded_grows : (t more : Schema) (class : ClassId) (field : Declaration) (o : Option SchemaErr) → unless_refused (with_field t class field) o ≡ Ok more → TableGrows t more
+fielded_grows t more class field (Some why) e = err_ok e
+fielded_grows t more class field None e =
+    let new : Class = with_own (class_at t.classes class) field in
+    subst (TableGrows t) (ok_same e) (record {
+      classes = omega (arith, length-set t.classes class.0 new);
+      slots = refl;
+      at_once = λ h. all_set IsAtOnce refl t.classes class.0 new h (all_there IsAtOnce refl t.classes class.0 h);
+      named = λ h. all_set IsNamed object_named t.classes class.0 new h (own_named (class_at t.classes class) field (all_there IsNamed object_named t.classes class.0 h));
     })
 
 -- a line of the header keeps it
@@ -333,22 +516,42 @@ good_classes : (limits : Limits) (c next : Context) (r : Result Schema SchemaErr
 good_classes limits c next (Err refusal) g grows e = err_ok e
 good_classes limits c next (Ok more) g grows e =
     let t = grows more refl in
-    subst (Good limits) (ok_same e)
-    (record { lanes = g.lanes; now = g.now; framed = λ vars count within few. g.framed vars count within (omega (arith, t.classes, few)); slots = t.slots ∙ g.slots; some = omega (arith, t.classes, g.some); at_once = t.at_once g.at_once })
+    subst (Good limits) (ok_same e) (record {
+      lanes = g.lanes;
+      now = g.now;
+      framed = λ vars count names within few named. g.framed vars count names within (omega (arith, t.classes, few)) named;
+      slots = t.slots ∙ g.slots;
+      some = omega (arith, t.classes, g.some);
+      at_once = t.at_once g.at_once;
+      named = t.named g.named;
+    })
+
+-- so does one that tells a field
+good_field : (limits : Limits) (c next : Context) (number : ℕ) (name : List ℕ) (count : ℕ) (class : Option ClassId) (what : Option FieldKind) → Good limits c → field_known number c name count class what ≡ Ok next → Good limits next
+good_field limits c next number name count None what g e = err_ok e
+good_field limits c next number name count (Some class) None g e = err_ok e
+good_field limits c next number name count (Some class) (Some what) g e =
+    let field : Declaration = record { name = name; line = number; kind = what; count = count } in
+    good_classes limits c next (field_added c.classes class field) g (λ more is. fielded_grows c.classes more class field (field_refusal c.classes class field.name field.count) is) e
+
+good_counted : (limits : Limits) (c next : Context) (number : ℕ) (class name : List ℕ) (what : FieldOf) (o : Option ℕ) → Good limits c → field_counted number c class name what o ≡ Ok next → Good limits next
+good_counted limits c next number class name what None g e = err_ok e
+good_counted limits c next number class name what (Some count) g e = good_field limits c next number name count (find_class c.classes.classes class) (kind_found c.classes.classes what) g e
 
 -- ---- whole inputs
 
 -- what a line says keeps it
-good_act : (limits : Limits) (c next : Context) (number : ℕ) (what : Said) → Good limits c → act_turn number c what ≡ Ok next → Good limits next
-good_act limits c next number said.Nothing g e = subst (Good limits) (ok_same e) g
-good_act limits c next number (said.Class name parent) g e = good_classes limits c next (added c.classes number name parent) g (λ more is. added_grows c.classes more number name (admitted c.classes.classes name parent) is) e
-good_act limits c next number said.Full g e = subst (Good limits) (ok_same e) (good_push limits c c.lanes number who.Gc cmd.GcFull g refl refl (λ l. omega arith) (λ vars classes within few. refl))
-good_act limits c next number (said.Lane lane what) g e = good_lane_of limits c next number what (lane_index (length c.lanes) lane) g e
+good_act : (limits : Limits) (c next : Context) (number : ℕ) (what : Said) → Good limits c → SaysName what → act_turn number c what ≡ Ok next → Good limits next
+good_act limits c next number said.Nothing g says e = subst (Good limits) (ok_same e) g
+good_act limits c next number (said.Class name parent) g says e = good_classes limits c next (added c.classes number name parent) g (λ more is. added_grows c.classes more number name (admitted c.classes.classes name parent) says is) e
+good_act limits c next number (said.Field class name what count) g says e = good_counted limits c next number class name what (elements_in count) g e
+good_act limits c next number said.Full g says e = subst (Good limits) (ok_same e) (good_push limits c c.lanes c.fields number who.Gc cmd.GcFull g refl refl (λ l. omega arith) (omega arith) (λ vars classes names within few named. refl))
+good_act limits c next number (said.Lane lane what) g says e = good_lane_of limits c next number what (lane_index (length c.lanes) lane) g e
 
 -- so does a line that says something
-good_said : (limits : Limits) (c next : Context) (number : ℕ) (r : Result Said Cause) → Good limits c → if_said number c r ≡ Ok next → Good limits next
-good_said limits c next number (Err why) g e = err_ok e
-good_said limits c next number (Ok what) g e = good_act limits c next number what g e
+good_said : (limits : Limits) (c next : Context) (number : ℕ) (r : Result Said Cause) → Good limits c → SaysNameIfOk r → if_said number c r ≡ Ok next → Good limits next
+good_said limits c next number (Err why) g says e = err_ok e
+good_said limits c next number (Ok what) g says e = good_act limits c next number what g says e
 
 -- a line that is read is not too late
 short_enough : (b : Bool) (r : Result Context Cause) (next : Context) → cond b (Err cause.TooLong) r ≡ Ok next → r ≡ Ok next
@@ -358,7 +561,7 @@ short_enough false r next e = e
 -- each line keeps it
 good_line : (limits : Limits) (c next : Context) (number : ℕ) (line : List ℕ) → Good limits c → line_turn number c line ≡ Ok next → Good limits next
 unfolding line_turn
-good_line limits c next number line g e = good_said limits c next number (said_by_line c.in_header line) g (short_enough (nat_lt 200000 number) (turn number c line) next e)
+good_line limits c next number line g e = good_said limits c next number (said_by_line c.in_header line) g (line_says c.in_header line) (short_enough (nat_lt 200000 number) (turn number c line) next e)
 
 -- what is read on is read after a line
 on_ok : (number : ℕ) (r : Result Context Cause) (more : Context → Result Context ScriptErr) (last : Context) → read_on number r more ≡ Ok last → (next : Context) × (r ≡ Ok next) × (more next ≡ Ok last)
@@ -386,7 +589,7 @@ closed_copies (suc n) = ap (λ fs. false ∷ fs) (closed_copies n)
 -- it is so before the first line
 good_start : (limits : Limits) → Good limits (start limits)
 unfolding frames_through are_framed
-good_start limits = record { lanes = length_copies limits.lanes; now = closed_copies limits.lanes; framed = λ vars classes within few. refl; slots = refl; some = omega arith; at_once = (refl, tt) }
+good_start limits = record { lanes = length_copies limits.lanes; now = closed_copies limits.lanes; framed = λ vars classes names within few named. refl; slots = refl; some = omega arith; at_once = (refl, tt); named = (object_named, tt) }
 
 -- the script of such a context can be played
 good_script : (limits : Limits) (c : Context) → Good limits c → IsPlayable limits (script_from c)
@@ -394,7 +597,8 @@ good_script limits c g = record {
   lanes = rw length-map g.lanes;
   slots = g.slots;
   at_once = g.at_once;
-  framed = g.framed (map count_of c.lanes) (length c.classes.classes) (λ l. let same : get_or (map count_of c.lanes) l 0 ≡ count_of (get_or c.lanes l closed_lane) = get_or-map count_of c.lanes l closed_lane in omega (arith, same)) (omega arith);
+  named = g.named;
+  framed = g.framed (map count_of c.lanes) (length c.classes.classes) (length c.fields) (λ l. let same : get_or (map count_of c.lanes) l 0 ≡ count_of (get_or c.lanes l closed_lane) = get_or-map count_of c.lanes l closed_lane in omega (arith, same)) (omega arith) (omega arith);
   classes = g.some;
 }
 

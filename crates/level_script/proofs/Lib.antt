@@ -2,4 +2,5 @@ pub mod Cutting
 pub mod Forming
 pub mod Tables
 pub mod Turning
+pub mod Naming
 pub mod Framing

@@ -1,11 +1,14 @@
 -- What the lines so far have made known, and what one more line adds.
-use Rattle.std.specs.Prelude.{◌≡◌, ℕ, ◌≤◌, true, false, List, [], ◌∷◌, ◌++◌, map, replicate, length, Option, Some, None, Result, Ok, Err, slice_get, slice_set}
-use Rattle.class_schema.specs.Class.{Schema}
+use Rattle.std.specs.Prelude.{◌≡◌, ℕ, ◌≤◌, nat_le, true, false, ◌&&◌, List, [], ◌∷◌, ◌++◌, map, replicate, length, Option, Some, None, option_map, Result, Ok, Err, slice_get, slice_set, if◌then◌else◌}
+use Rattle.world_model.specs.declared.kind.ClassId.{ClassId}
+use Rattle.class_schema.specs.Class.{Class, Schema, Declaration}
 use Rattle.class_schema.specs.Ancestry.{object}
-use Rattle.class_schema.specs.Table.{added}
+use Rattle.class_schema.specs.Table.{find_class, added, field_added}
+use Rattle.class_schema.specs.declared.field.FieldKind.{FieldKind}
+use Rattle.class_schema.specs.declared.field.FieldKind.TheVariants as kind
 use Rattle.class_schema.specs.declared.refusal.SchemaErr.{SchemaErr}
 use Rattle.level_script.specs.Commands.{said_by_line}
-use Rattle.level_script.specs.Lanes.{closed_lane, count_of, lane_step, lane_index}
+use Rattle.level_script.specs.Lanes.{closed_lane, count_of, Stepped, lane_step, lane_index}
 use Rattle.level_script.specs.declared.cause.Cause.{Cause}
 use Rattle.level_script.specs.declared.cause.Cause.TheVariants as cause
 use Rattle.level_script.specs.declared.cause.Stop.{Stop}
@@ -14,6 +17,8 @@ use Rattle.level_script.specs.declared.context.Context.{Context}
 use Rattle.level_script.specs.declared.lanes.LaneNames.{LaneNames}
 use Rattle.level_script.specs.declared.limits.Limits.{Limits}
 use Rattle.level_script.specs.declared.said.Does.{Does}
+use Rattle.level_script.specs.declared.said.FieldOf.{FieldOf}
+use Rattle.level_script.specs.declared.said.FieldOf.TheVariants as of
 use Rattle.level_script.specs.declared.said.Said.{Said}
 use Rattle.level_script.specs.declared.said.Said.TheVariants as said
 use Rattle.level_script.specs.declared.script.Cmd.{Cmd}
@@ -22,6 +27,7 @@ use Rattle.level_script.specs.declared.script.Script.{Script}
 use Rattle.level_script.specs.declared.script.Who.{Who}
 use Rattle.level_script.specs.declared.script.Who.TheVariants as who
 use Rattle.level_script.specs.declared.word.Number.{Number}
+use Rattle.level_script.specs.declared.word.Number.TheVariants.{Value, OutOfRange}
 
 -- limits in their ranges
 pub record AreLawful (limits : Limits) : Type 0 where
@@ -36,30 +42,56 @@ pub record AreLawful (limits : Limits) : Type 0 where
 
 -- what is known before the first line
 abbrev pub start : Limits → Context
-start limits = record { classes = record { slots = limits.slots; classes = object ∷ [] }; in_header = true; lanes = replicate limits.lanes closed_lane; lines = [] }
+start limits = record { classes = record { slots = limits.slots; classes = object ∷ [] }; in_header = true; lanes = replicate limits.lanes closed_lane; fields = []; lines = [] }
 
 -- a line that does something, which ends the header
 abbrev pub with_line : Context → ℕ → Who → Cmd → Context
-with_line c number by command = record { classes = c.classes; in_header = false; lanes = c.lanes; lines = c.lines ++ record { number = number; who = by; cmd = command } ∷ [] }
+with_line c number by command = record { classes = c.classes; in_header = false; lanes = c.lanes; fields = c.fields; lines = c.lines ++ record { number = number; who = by; cmd = command } ∷ [] }
 
 -- the table of classes that a line leaves
 abbrev pub with_classes : Context → Result Schema SchemaErr → Result Context Cause
-with_classes c (Ok classes) = Ok (record { classes = classes; in_header = c.in_header; lanes = c.lanes; lines = c.lines })
+with_classes c (Ok classes) = Ok (record { classes = classes; in_header = c.in_header; lanes = c.lanes; fields = c.fields; lines = c.lines })
 with_classes c (Err refusal) = Err (cause.Schema refusal)
 
--- a line of the header
+-- a line of the header that tells a class
 abbrev pub class_turn : ℕ → Context → List ℕ → List ℕ → Result Context Cause
 class_turn number c name parent = with_classes c (added c.classes number name parent)
 
--- the lane that is left, and the line
-abbrev pub with_lane : ℕ → Context → ℕ → Result (LaneNames × Cmd) Cause → Result Context Cause
-with_lane number c index (Ok (lane, command)) = Ok (with_line (record { classes = c.classes; in_header = c.in_header; lanes = slice_set c.lanes index lane; lines = c.lines }) number (who.Lane index) command)
+-- how many elements a field has: one where the line does not say it, and else 1 to 64
+abbrev pub elements_in : Option Number → Option ℕ
+elements_in None = Some 1
+elements_in (Some (Value number)) = if nat_le 1 number && nat_le number 64 then Some number else None
+elements_in (Some OutOfRange) = None
+
+-- what the elements of a field are, if the class of references is known
+abbrev pub kind_found : List Class → FieldOf → Option FieldKind
+kind_found classes (of.Ref name) = option_map kind.Ref (find_class classes name)
+kind_found classes of.Weak = Some kind.Weak
+kind_found classes of.Int = Some kind.Int
+
+-- a field of a class that is known, with elements that are
+abbrev pub field_known : ℕ → Context → List ℕ → ℕ → Option ClassId → Option FieldKind → Result Context Cause
+field_known number c name count None what = Err cause.UnknownName
+field_known number c name count (Some class) None = Err cause.UnknownName
+field_known number c name count (Some class) (Some what) = with_classes c (field_added c.classes class (record { name = name; line = number; kind = what; count = count }))
+
+abbrev pub field_counted : ℕ → Context → List ℕ → List ℕ → FieldOf → Option ℕ → Result Context Cause
+field_counted number c class name what None = Err cause.Number
+field_counted number c class name what (Some count) = field_known number c name count (find_class c.classes.classes class) (kind_found c.classes.classes what)
+
+-- a line of the header that tells a field
+abbrev pub field_turn : ℕ → Context → List ℕ → List ℕ → FieldOf → Option Number → Result Context Cause
+field_turn number c class name what count = field_counted number c class name what (elements_in count)
+
+-- what a lane's line leaves, and the line
+abbrev pub with_lane : ℕ → Context → ℕ → Result Stepped Cause → Result Context Cause
+with_lane number c index (Ok done) = Ok (with_line (record { classes = c.classes; in_header = c.in_header; lanes = slice_set c.lanes index done.lane; fields = done.fields; lines = c.lines }) number (who.Lane index) done.command)
 with_lane number c index (Err why) = Err why
 
 -- the same of the lane at a place
 abbrev pub lane_at : ℕ → Context → ℕ → Option LaneNames → Does → Result Context Cause
 lane_at number c index None does = Err cause.Number
-lane_at number c index (Some lane) does = with_lane number c index (lane_step c.classes.classes lane does)
+lane_at number c index (Some lane) does = with_lane number c index (lane_step c.classes.classes lane c.fields does)
 
 -- the same of a lane that may be there
 abbrev pub lane_of : ℕ → Context → Option ℕ → Does → Result Context Cause
@@ -74,6 +106,7 @@ lane_turn number c lane does = lane_of number c (lane_index (length c.lanes) lan
 abbrev pub act_turn : ℕ → Context → Said → Result Context Cause
 act_turn number c said.Nothing = Ok c
 act_turn number c (said.Class name parent) = class_turn number c name parent
+act_turn number c (said.Field class name what count) = field_turn number c class name what count
 act_turn number c said.Full = Ok (with_line c number who.Gc cmd.GcFull)
 act_turn number c (said.Lane lane does) = lane_turn number c lane does
 
@@ -94,4 +127,4 @@ Turns want new (Err stop.Memory) = Unit {0}
 
 -- the script that all lines are
 abbrev pub script_from : Context → Script
-script_from c = record { classes = c.classes; fields = []; lines = c.lines; vars = map count_of c.lanes; weaks = 0 }
+script_from c = record { classes = c.classes; fields = c.fields; lines = c.lines; vars = map count_of c.lanes; weaks = 0 }

@@ -1,11 +1,12 @@
 -- The forms of words.
-use Rattle.std.specs.Prelude.{ℕ, ◌==◌, ◌-◌, ◌^◌, Bool, false, ◌&&◌, ◌||◌, nat_le, nat_lt, List, [], ◌∷◌, map, length, codes, Option, Some, None, if◌then◌else◌}
+use Rattle.std.specs.Prelude.{ℕ, ◌+◌, ◌==◌, ◌-◌, ◌^◌, Bool, false, ◌&&◌, ◌||◌, nat_le, nat_lt, List, [], ◌∷◌, map, length, take, drop, position, slice_index, codes, Option, Some, None, if◌then◌else◌}
 use Rattle.std.specs.List.{list_all}
 use Rattle.std.specs.Str.{bytes_eq}
 use Rattle.std.specs.Char.{is_ascii_digit, is_ascii_alphabetic}
 use Rattle.std.specs.Int.Digits.{number_from_digits}
 use Rattle.level_script.specs.declared.word.Number.{Number}
 use Rattle.level_script.specs.declared.word.Number.TheVariants.{Value, OutOfRange}
+use Rattle.level_script.specs.declared.said.Place.{Place}
 
 -- an ASCII letter or `_`
 abbrev pub begins_identifier : ℕ → Bool
@@ -44,3 +45,37 @@ number_of digits = if nat_le (length digits) 20 && nat_lt (written digits) (2 ^ 
 abbrev pub is_comment : List ℕ → Bool
 is_comment [] = false
 is_comment (b ∷ bs) = b == 35
+
+-- ---- spots
+
+-- the place of the first byte of this value
+abbrev pub place_of : ℕ → List ℕ → Option ℕ
+place_of byte word = position (λ b. b == byte) word
+
+-- the number in front of a last `]`
+abbrev pub bracketed : List ℕ → Option Number
+bracketed word =
+    if slice_index word (length word - 1) == 93 && nat_lt 1 (length word) && is_digits (take (length word - 1) word)
+    then Some (number_of (take (length word - 1) word))
+    else None
+
+-- an element of a field of a variable, if all of them are there
+abbrev pub placed : Option (List ℕ) → Option (List ℕ) → Option Number → Option Place
+placed (Some var) (Some field) (Some element) = Some (record { var = var; field = field; element = element })
+placed (Some var) (Some field) None = None
+placed (Some var) None element = None
+placed None field element = None
+
+-- the field and the element behind the dot: the element is 0 where there is no bracket
+abbrev pub field_at : Option (List ℕ) → List ℕ → Option ℕ → Option Place
+field_at var word None = placed var (identifier_of word) (Some (Value 0))
+field_at var word (Some at) = placed var (identifier_of (take at word)) (bracketed (drop (at + 1) word))
+
+-- what stands before and behind the dot
+abbrev pub spot_at : List ℕ → Option ℕ → Option Place
+spot_at word None = None
+spot_at word (Some at) = field_at (variable_of (take at word)) (drop (at + 1) word) (place_of 91 (drop (at + 1) word))
+
+-- a spot: `V.F`, or `V.F[I]`
+abbrev pub spot_of : List ℕ → Option Place
+spot_of word = spot_at word (place_of 46 word)

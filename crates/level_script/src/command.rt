@@ -1,12 +1,15 @@
 //! The words of a line, one level of the grammar a function.
 ghost use Rattle.std.specs.Prelude.{◌≡◌, MatchOption, Some, None};
 ghost use Rattle.level_script.specs.Lines.{line_words};
-ghost use Rattle.level_script.specs.Commands.{pair_of, alone, class_line, collector_line, new_command, switch_of, root_command, lane_command, lane_line, said_by_words, said_by_line};
+ghost use Rattle.level_script.specs.Commands.{pair_of, only_of, alone, class_line, count_of, field_of, two_names, field_line, collector_line, new_command, switch_of, root_command, target_of, set_command, get_command, put_command, take_command, print_command, lane_command, lane_line, said_by_words, said_by_line};
 
 use crate::cause::Cause;
 use crate::lines::{first_word, is_over};
-use crate::said::{Does, Said};
-use crate::word::{Number, is_comment, is_digits, read_identifier, read_number, read_variable};
+use crate::said::{Does, FieldOf, Said};
+use crate::spot::read_spot;
+use crate::word::{
+    Identifier, Number, is_comment, is_digits, read_identifier, read_number, read_variable,
+};
 
 // The two words that are left, where there are two.
 fn pair<'a>(rest: &'a [u8]) -> Option<(&'a [u8], &'a [u8])>
@@ -19,6 +22,14 @@ fn pair<'a>(rest: &'a [u8]) -> Option<(&'a [u8], &'a [u8])>
     } else {
         None
     }
+}
+
+// The one word that is left, where there is one.
+fn only<'a>(rest: &'a [u8]) -> Option<&'a [u8]>
+    ensures { MatchOption result (only_of (line_words rest.now) ≡ None) (λ r. only_of (line_words rest.now) ≡ Some r.now) }
+{
+    let (word, rest) = first_word(rest)?;
+    if is_over(rest) { Some(word) } else { None }
 }
 
 fn class_line<'a>(in_header: bool, rest: &'a [u8]) -> Result<Said<'a>, Cause>
@@ -37,6 +48,69 @@ fn class_line<'a>(in_header: bool, rest: &'a [u8]) -> Result<Said<'a>, Cause>
         return Err(Cause::Words);
     };
     Ok(Said::Class { name, parent })
+}
+
+// The number of elements at the end of a line, where it says one.
+fn read_count(rest: &[u8]) -> Result<Option<Number>, Cause>
+    ensures { result ≡ count_of (line_words rest.now) }
+{
+    let Some((word, rest)) = first_word(rest) else {
+        return Ok(None);
+    };
+    if is_over(rest) && is_digits(word) {
+        Ok(Some(read_number(word)))
+    } else {
+        Err(Cause::Words)
+    }
+}
+
+// What the elements of a field are, and what stands behind that.
+fn field_of<'a>(rest: &'a [u8]) -> Option<(FieldOf<'a>, &'a [u8])>
+    ensures { MatchOption result (field_of (line_words rest.now) ≡ None) (λ r. field_of (line_words rest.now) ≡ Some (r.0, line_words r.1.now)) }
+{
+    let (word, rest) = first_word(rest)?;
+    if word == b"ref".as_slice() {
+        let (class, rest) = first_word(rest)?;
+        Some((FieldOf::Ref(read_identifier(class)?), rest))
+    } else if word == b"weak".as_slice() {
+        Some((FieldOf::Weak, rest))
+    } else if word == b"int".as_slice() {
+        Some((FieldOf::Int, rest))
+    } else {
+        None
+    }
+}
+
+// The two words in front, as identifiers, and what stands behind them.
+fn two_names<'a>(rest: &'a [u8]) -> Option<(Identifier<'a>, Identifier<'a>, &'a [u8])>
+    ensures { MatchOption result (two_names (line_words rest.now) ≡ None) (λ r. two_names (line_words rest.now) ≡ Some (r.0, r.1, line_words r.2.now)) }
+{
+    let (class, rest) = first_word(rest)?;
+    let (name, rest) = first_word(rest)?;
+    let class = read_identifier(class)?;
+    let name = read_identifier(name)?;
+    Some((class, name, rest))
+}
+
+fn field_line<'a>(in_header: bool, rest: &'a [u8]) -> Result<Said<'a>, Cause>
+    ensures { result ≡ field_line in_header (line_words rest.now) }
+{
+    if !in_header {
+        return Err(Cause::UnknownCommand);
+    }
+    let Some((class, name, rest)) = two_names(rest) else {
+        return Err(Cause::Words);
+    };
+    let Some((of, rest)) = field_of(rest) else {
+        return Err(Cause::Words);
+    };
+    let count = read_count(rest)?;
+    Ok(Said::Field {
+        class,
+        name,
+        of,
+        count,
+    })
 }
 
 fn collector_line<'a>(rest: &'a [u8]) -> Result<Said<'a>, Cause>
@@ -98,6 +172,90 @@ fn root_command<'a>(rest: &'a [u8]) -> Result<Does<'a>, Cause>
     Ok(Does::Root { var, on })
 }
 
+// The variable whose object is stored, or none.
+fn read_target<'a>(word: &'a [u8]) -> Option<Option<Identifier<'a>>>
+    ensures { result ≡ target_of word.now }
+{
+    if word == b"none".as_slice() {
+        Some(None)
+    } else {
+        Some(Some(read_identifier(word)?))
+    }
+}
+
+fn set_command<'a>(rest: &'a [u8]) -> Result<Does<'a>, Cause>
+    ensures { result ≡ set_command (pair_of (line_words rest.now)) }
+{
+    let Some((spot, to)) = pair(rest) else {
+        return Err(Cause::Words);
+    };
+    let Some(place) = read_spot(spot) else {
+        return Err(Cause::Words);
+    };
+    let Some(to) = read_target(to) else {
+        return Err(Cause::Words);
+    };
+    Ok(Does::Set { place, to })
+}
+
+fn get_command<'a>(rest: &'a [u8]) -> Result<Does<'a>, Cause>
+    ensures { result ≡ get_command (pair_of (line_words rest.now)) }
+{
+    let Some((var, spot)) = pair(rest) else {
+        return Err(Cause::Words);
+    };
+    let Some(var) = read_variable(var) else {
+        return Err(Cause::Words);
+    };
+    let Some(place) = read_spot(spot) else {
+        return Err(Cause::Words);
+    };
+    Ok(Does::Get { var, place })
+}
+
+fn put_command<'a>(rest: &'a [u8]) -> Result<Does<'a>, Cause>
+    ensures { result ≡ put_command (pair_of (line_words rest.now)) }
+{
+    let Some((spot, value)) = pair(rest) else {
+        return Err(Cause::Words);
+    };
+    let Some(place) = read_spot(spot) else {
+        return Err(Cause::Words);
+    };
+    if is_digits(value) {
+        Ok(Does::Put {
+            place,
+            value: read_number(value),
+        })
+    } else {
+        Err(Cause::Words)
+    }
+}
+
+fn take_command<'a>(rest: &'a [u8]) -> Result<Does<'a>, Cause>
+    ensures { result ≡ take_command (only_of (line_words rest.now)) }
+{
+    let Some(spot) = only(rest) else {
+        return Err(Cause::Words);
+    };
+    match read_spot(spot) {
+        Some(place) => Ok(Does::Take { place }),
+        None => Err(Cause::Words),
+    }
+}
+
+fn print_command<'a>(rest: &'a [u8]) -> Result<Does<'a>, Cause>
+    ensures { result ≡ print_command (only_of (line_words rest.now)) }
+{
+    let Some(var) = only(rest) else {
+        return Err(Cause::Words);
+    };
+    match read_variable(var) {
+        Some(var) => Ok(Does::Print { var }),
+        None => Err(Cause::Words),
+    }
+}
+
 // A command of one word.
 fn alone<'a>(does: Does<'a>, rest: &[u8]) -> Result<Does<'a>, Cause>
     ensures { result ≡ alone does.entry (line_words rest.now) }
@@ -120,6 +278,16 @@ fn lane_command<'a>(word: &[u8], rest: &'a [u8]) -> Result<Does<'a>, Cause>
         new_command(rest)
     } else if word == b"root".as_slice() {
         root_command(rest)
+    } else if word == b"set".as_slice() {
+        set_command(rest)
+    } else if word == b"get".as_slice() {
+        get_command(rest)
+    } else if word == b"put".as_slice() {
+        put_command(rest)
+    } else if word == b"take".as_slice() {
+        take_command(rest)
+    } else if word == b"print".as_slice() {
+        print_command(rest)
     } else {
         Err(Cause::UnknownCommand)
     }
@@ -147,6 +315,8 @@ fn said_by_words<'a>(in_header: bool, line: &'a [u8]) -> Result<Said<'a>, Cause>
         Ok(Said::Nothing)
     } else if word == b"class".as_slice() {
         class_line(in_header, rest)
+    } else if word == b"field".as_slice() {
+        field_line(in_header, rest)
     } else if word == b"gc".as_slice() {
         collector_line(rest)
     } else if is_digits(word) {

@@ -1,16 +1,31 @@
 //! What the lines so far have made known, and what one more line adds.
-ghost use Rattle.std.specs.Prelude.{◌≡◌, IfOk, Ok};
-ghost use Rattle.level_script.specs.Context.{AreLawful, start, with_line, class_turn, lane_turn, act_turn, turn, Turns, script_from};
+ghost use Rattle.std.specs.Prelude.{◌≡◌, ◌≤◌, length, IsTrue, IfOk, IfSome, Ok};
+ghost use Rattle.class_schema.specs.Lawful.{has_target};
+ghost use Rattle.level_script.specs.Context.{AreLawful, start, with_line, class_turn, elements_in, kind_found, field_turn, lane_turn, act_turn, turn, Turns, script_from};
 
 use crate::cause::{Cause, Stop};
 use crate::command::read_line;
 use crate::lanes::Lanes;
 use crate::limits::Limits;
-use crate::said::{Does, Said};
+use crate::names::NameTable;
+use crate::said::{Does, FieldOf, Said};
 use crate::script::{Cmd, FieldNames, Line, Lines, Script, Who};
 use crate::word::{Identifier, Number};
-use class_schema::{AddErr, ClassTable};
+use class_schema::{AddErr, ClassTable, FieldKind};
 use std::alloc::{AllocError, Global};
+
+// How many elements a field has.
+fn elements_in(count: &Option<Number>) -> Option<u32>
+    ensures count { result ≡ elements_in count.now }
+    ensures some { IfSome result (λ n. 1 ≤ n) }
+    ensures few { IfSome result (λ n. n ≤ 64) }
+{
+    match *count {
+        None => Some(1),
+        Some(Number::Value(value)) if 1 <= value && value <= 64 => Some(value as u32),
+        Some(_) => None,
+    }
+}
 
 /// What the lines so far have made known.
 #[derive(Drop)]
@@ -19,6 +34,8 @@ pub struct Context {
     /// Whether no line of another command than those of the header has come.
     in_header: bool,
     lanes: Lanes,
+    /// The names of the fields that lines mention.
+    fields: NameTable,
     /// The lines that do something.
     lines: Lines,
 }
@@ -35,6 +52,7 @@ impl Context {
             classes,
             in_header: true,
             lanes,
+            fields: NameTable::new(alloc),
             lines: Lines::new(alloc),
         })
     }
@@ -67,13 +85,59 @@ impl Context {
         }
     }
 
+    // What the elements of a field are.
+    fn kind_found(&self, of: &FieldOf<'_>) -> Option<FieldKind>
+        ensures kind { result ≡ kind_found self.now.classes.classes of.now }
+        ensures known { IfSome result (λ kind. IsTrue (has_target (length self.now.classes.classes) kind)) }
+    {
+        match of {
+            FieldOf::Ref(name) => match self.classes.find_class(name.as_str()) {
+                Some(class) => Some(FieldKind::Ref(class)),
+                None => None,
+            },
+            FieldOf::Weak => Some(FieldKind::Weak),
+            FieldOf::Int => Some(FieldKind::Int),
+        }
+    }
+
+    fn add_field(
+        &mut self,
+        number: u32,
+        class: &Identifier<'_>,
+        name: &Identifier<'_>,
+        of: &FieldOf<'_>,
+        count: &Option<Number>,
+    ) -> Result<(), Stop>
+        ensures { Turns (field_turn number self.old class.now name.now of.now count.now) self.new result }
+    {
+        let Some(count) = elements_in(count) else {
+            return Err(Stop::Faulty(Cause::Number));
+        };
+        let Some(class) = self.classes.find_class(class.as_str()) else {
+            return Err(Stop::Faulty(Cause::UnknownName));
+        };
+        let Some(kind) = self.kind_found(of) else {
+            return Err(Stop::Faulty(Cause::UnknownName));
+        };
+        match self
+            .classes
+            .add_field(number, class, name.as_str(), kind, count)
+        {
+            Ok(()) => Ok(()),
+            Err(AddErr::Schema(refusal)) => Err(Stop::Faulty(Cause::Schema(refusal))),
+            Err(AddErr::Memory) => Err(Stop::Memory),
+        }
+    }
+
     fn lane_line(&mut self, number: u32, lane: &Number, does: &Does<'_>) -> Result<(), Stop>
         ensures { Turns (lane_turn number self.old lane.now does.now) self.new result }
     {
         let Some(lane) = self.lanes.find(lane) else {
             return Err(Stop::Faulty(Cause::Number));
         };
-        let cmd = self.lanes.step(lane, &self.classes, does)?;
+        let cmd = self
+            .lanes
+            .step(lane, &self.classes, &mut self.fields, does)?;
         self.push(number, Who::Lane(lane), cmd)
     }
 
@@ -83,6 +147,12 @@ impl Context {
         match said {
             Said::Nothing => Ok(()),
             Said::Class { name, parent } => self.add_class(number, name, parent),
+            Said::Field {
+                class,
+                name,
+                of,
+                count,
+            } => self.add_field(number, class, name, of, count),
             Said::Full => self.push(number, Who::Gc, Cmd::GcFull),
             Said::Lane { lane, does } => self.lane_line(number, lane, does),
         }
@@ -105,7 +175,7 @@ impl Context {
         let vars = self.lanes.counts(alloc)?;
         Ok(Script {
             classes: self.classes,
-            fields: FieldNames::new(alloc),
+            fields: FieldNames::from_table(self.fields),
             lines: self.lines,
             vars,
             weaks: 0,

@@ -1,15 +1,25 @@
 //! The lanes of a script, as far as it has been read.
 ghost use Rattle.std.specs.Prelude.{◌≡◌, ◌<◌, ◌≤◌, length, map, replicate, IfOk, Some, slice_get};
-ghost use Rattle.level_script.specs.Lanes.{closed_lane, open_step, close_step, new_step, root_step, bound_var, lane_step, lane_index, Steps, StepsAt, count_of};
+ghost use Rattle.level_script.specs.Lanes.{closed_lane, open_step, close_step, new_step, root_step, bound_var, element_in, spot_found, set_step, get_step, put_step, take_step, print_step, lane_step, lane_index, bound_target, Steps, StepsOn, FindsSpot, FindsTarget, StepsAt, count_of};
 
 use crate::cause::{Cause, Stop};
 use crate::names::{NameTable, NumberSet};
-use crate::said::Does;
-use crate::script::{Cmd, Counts};
+use crate::said::{Does, Place};
+use crate::script::{Cmd, Counts, Spot};
 use crate::word::{Identifier, Number};
 use class_schema::ClassTable;
 use std::alloc::{AllocError, Global};
 use std::marker::Model;
+
+// The number of an element, below 2^32.
+fn element_in(number: &Number) -> Option<u32>
+    ensures { result ≡ element_in number.now }
+{
+    match *number {
+        Number::Value(value) if value < 4294967296 => Some(value as u32),
+        _ => None,
+    }
+}
 
 /// A lane.
 #[derive(Drop)]
@@ -101,15 +111,161 @@ impl LaneNames {
         Ok(Cmd::Root { var, on })
     }
 
+    // The variable whose object is stored, or none.
+    fn target(&self, to: &Option<Identifier<'_>>) -> Result<Option<u32>, Stop>
+        ensures { FindsTarget (bound_target self.now to.now) result }
+    {
+        let Some(name) = to else {
+            return Ok(None);
+        };
+        match self.bound_var(name.as_str()) {
+            Some(var) => Ok(Some(var)),
+            None => Err(Stop::Faulty(Cause::UnknownName)),
+        }
+    }
+
+    // An element of a variable that is bound, of a field that some class has.
+    fn spot(
+        &self,
+        classes: &ClassTable,
+        fields: &mut NameTable,
+        place: &Place<'_>,
+        element: u32,
+    ) -> Result<Spot, Stop>
+        ensures { FindsSpot (spot_found classes.now.classes self.now fields.old place.now element) fields.old place.now.field fields.new result }
+    {
+        let Some(var) = self.bound_var(place.var.as_str()) else {
+            return Err(Stop::Faulty(Cause::UnknownName));
+        };
+        if !classes.has_field(place.field.as_str()) {
+            return Err(Stop::Faulty(Cause::UnknownName));
+        }
+        match fields.add(place.field.as_str()) {
+            Ok(field) => Ok(Spot {
+                var,
+                field,
+                element,
+            }),
+            Err(_) => Err(Stop::Memory),
+        }
+    }
+
+    fn set(
+        &mut self,
+        classes: &ClassTable,
+        fields: &mut NameTable,
+        place: &Place<'_>,
+        to: &Option<Identifier<'_>>,
+    ) -> Result<Cmd, Stop>
+        ensures { StepsOn (set_step classes.now.classes self.old fields.old place.now to.now) self.new fields.new result }
+    {
+        let Some(element) = element_in(&place.element) else {
+            return Err(Stop::Faulty(Cause::Number));
+        };
+        if !self.opened {
+            return Err(Stop::Faulty(Cause::Frame));
+        }
+        let to = self.target(to)?;
+        let spot = self.spot(classes, fields, place, element)?;
+        Ok(Cmd::Set { spot, to })
+    }
+
+    fn get(
+        &mut self,
+        classes: &ClassTable,
+        fields: &mut NameTable,
+        var: &Identifier<'_>,
+        place: &Place<'_>,
+    ) -> Result<Cmd, Stop>
+        ensures { StepsOn (get_step classes.now.classes self.old fields.old var.now place.now) self.new fields.new result }
+    {
+        let Some(element) = element_in(&place.element) else {
+            return Err(Stop::Faulty(Cause::Number));
+        };
+        if !self.opened {
+            return Err(Stop::Faulty(Cause::Frame));
+        }
+        let spot = self.spot(classes, fields, place, element)?;
+        let Ok(var) = self.names.add(var.as_str()) else {
+            return Err(Stop::Memory);
+        };
+        let Ok(()) = self.bound.add(var) else {
+            return Err(Stop::Memory);
+        };
+        Ok(Cmd::Get { var, spot })
+    }
+
+    fn put(
+        &mut self,
+        classes: &ClassTable,
+        fields: &mut NameTable,
+        place: &Place<'_>,
+        value: &Number,
+    ) -> Result<Cmd, Stop>
+        ensures { StepsOn (put_step classes.now.classes self.old fields.old place.now value.now) self.new fields.new result }
+    {
+        let Some(element) = element_in(&place.element) else {
+            return Err(Stop::Faulty(Cause::Number));
+        };
+        let Number::Value(value) = *value else {
+            return Err(Stop::Faulty(Cause::Number));
+        };
+        if !self.opened {
+            return Err(Stop::Faulty(Cause::Frame));
+        }
+        let spot = self.spot(classes, fields, place, element)?;
+        Ok(Cmd::Put { spot, value })
+    }
+
+    fn take(
+        &mut self,
+        classes: &ClassTable,
+        fields: &mut NameTable,
+        place: &Place<'_>,
+    ) -> Result<Cmd, Stop>
+        ensures { StepsOn (take_step classes.now.classes self.old fields.old place.now) self.new fields.new result }
+    {
+        let Some(element) = element_in(&place.element) else {
+            return Err(Stop::Faulty(Cause::Number));
+        };
+        if !self.opened {
+            return Err(Stop::Faulty(Cause::Frame));
+        }
+        let spot = self.spot(classes, fields, place, element)?;
+        Ok(Cmd::Take { spot })
+    }
+
+    fn print(&mut self, var: &Identifier<'_>) -> Result<Cmd, Stop>
+        ensures { Steps (print_step self.old var.now) self.new result }
+    {
+        if !self.opened {
+            return Err(Stop::Faulty(Cause::Frame));
+        }
+        let Some(var) = self.bound_var(var.as_str()) else {
+            return Err(Stop::Faulty(Cause::UnknownName));
+        };
+        Ok(Cmd::Print { var })
+    }
+
     // Does what a line of the lane says.
-    fn step(&mut self, classes: &ClassTable, does: &Does<'_>) -> Result<Cmd, Stop>
-        ensures { Steps (lane_step classes.now.classes self.old does.now) self.new result }
+    fn step(
+        &mut self,
+        classes: &ClassTable,
+        fields: &mut NameTable,
+        does: &Does<'_>,
+    ) -> Result<Cmd, Stop>
+        ensures { StepsOn (lane_step classes.now.classes self.old fields.old does.now) self.new fields.new result }
     {
         match does {
             Does::Open => self.open(),
             Does::Close => self.close(),
             Does::New { var, class } => self.make(classes, var, class),
             Does::Root { var, on } => self.root(var, *on),
+            Does::Set { place, to } => self.set(classes, fields, place, to),
+            Does::Get { var, place } => self.get(classes, fields, var, place),
+            Does::Put { place, value } => self.put(classes, fields, place, value),
+            Does::Take { place } => self.take(classes, fields, place),
+            Does::Print { var } => self.print(var),
         }
     }
 
@@ -167,12 +323,18 @@ impl Lanes {
     }
 
     /// Does what a line of a lane says.
-    pub fn step(&mut self, lane: u32, classes: &ClassTable, does: &Does<'_>) -> Result<Cmd, Stop>
+    pub fn step(
+        &mut self,
+        lane: u32,
+        classes: &ClassTable,
+        fields: &mut NameTable,
+        does: &Does<'_>,
+    ) -> Result<Cmd, Stop>
         requires { lane < length self.old }
-        ensures { StepsAt classes.now.classes self.old lane does.now self.new result }
+        ensures { StepsAt classes.now.classes self.old fields.old lane does.now self.new fields.new result }
     {
         let lane = &mut self.items[lane as usize];
-        lane.step(classes, does)
+        lane.step(classes, fields, does)
     }
 
     /// How many object variables each lane has.

@@ -4,13 +4,15 @@
 //! on the kit's sets in the order of insertion. `specs/` has the grammar, apart from the code: `Lines` cuts an input,
 //! `Forms` has the words, `Commands` the lines, `Lanes` and `Context` what one more line adds to
 //! what the lines before it have made known, `Reading` whole inputs, and `Frames` what a player may
-//! rely on. So far there are the commands `class NAME PARENT`, `gc full`, and after a lane `open`,
-//! `close`, `new V CLASS`, `root V on` and `root V off`. Any other command is an unknown one.
+//! rely on. So far there are the commands `class NAME PARENT` and `field CLASS NAME KIND` of the
+//! header, `gc full`, and after a lane `open`, `close`, `new V CLASS`, `root V on`, `root V off`,
+//! `set SPOT V`, `get V SPOT`, `put SPOT N`, `take SPOT` and `print V`. Any other command is an
+//! unknown one.
 //!
 //! The layer above calls `parse`, which answers exactly the script, or exactly the first faulty line
 //! with its first cause, and gets from its contract that the script's lines can be played: each
-//! lane, variable and class is there, and each frame is open or closed as its line needs it. The
-//! table of classes is that of class_schema.
+//! lane, variable, class and field name is there, and each frame is open or closed as its line needs
+//! it.
 #![tactic(auto)]
 
 mod cause;
@@ -24,13 +26,14 @@ mod names;
 mod reader;
 mod said;
 mod script;
+mod spot;
 mod word;
 
 pub use cause::{Cause, ParseErr, ScriptErr};
-pub use class_schema::{AddErr, ClassTable, SchemaErr};
+pub use class_schema::{AddErr, ClassTable, Field, FieldKind, SchemaErr};
 pub use limits::Limits;
 pub use reader::parse;
-pub use script::{Cmd, Counts, FieldNames, Line, Lines, Script, Who};
+pub use script::{Cmd, Counts, FieldNames, Line, Lines, Script, Spot, Who};
 
 #[cfg(test)]
 mod tests;

@@ -1,5 +1,5 @@
-//! The variables of a lane.
-ghost use Rattle.std.specs.Prelude.{◌≡◌, ◌==◌, ◌∷◌, [], ◌≤◌, ◌^◌, ◌-◌, length, IfOk, OnOk, OnErr};
+//! Names and numbers of variables, and names of fields.
+ghost use Rattle.std.specs.Prelude.{◌≡◌, ◌==◌, ◌∷◌, [], ◌≤◌, ◌^◌, ◌-◌, length, IfOk, OnOk, OnErr, MatchOption, slice_get, Some, None};
 ghost use Rattle.std.specs.List.{list_any};
 ghost use Rattle.level_script.specs.Names.{number_in, with_name, number_of_name, has_number, with_number};
 
@@ -52,6 +52,16 @@ impl NameTable {
     {
         match self.names.get_index_of(name) {
             Some(number) => Some(number as u32),
+            None => None,
+        }
+    }
+
+    /// The name with a number.
+    pub fn get(&self, number: u32) -> Option<&str>
+        ensures { MatchOption result (slice_get self.now number ≡ None) (λ name. slice_get self.now number ≡ Some name.now) }
+    {
+        match self.names.get_index(number as usize) {
+            Some(name) => Some(name.as_str()),
             None => None,
         }
     }

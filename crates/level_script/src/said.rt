@@ -11,6 +11,13 @@ pub enum Said<'a> {
         name: Identifier<'a>,
         parent: Identifier<'a>,
     },
+    /// The class has a field of this name, of so many elements, where it says how many.
+    Field {
+        class: Identifier<'a>,
+        name: Identifier<'a>,
+        of: FieldOf<'a>,
+        count: Option<Number>,
+    },
     /// The collector does a whole collection.
     Full,
     /// The lane with this number does something.
@@ -18,6 +25,23 @@ pub enum Said<'a> {
         lane: Number,
         does: Does<'a>,
     },
+}
+
+/// What the elements of a field are.
+#[derive(Drop)]
+pub enum FieldOf<'a> {
+    /// References to objects of a class.
+    Ref(Identifier<'a>),
+    Weak,
+    Int,
+}
+
+/// An element of a field of an object.
+#[derive(Drop)]
+pub struct Place<'a> {
+    pub var: Identifier<'a>,
+    pub field: Identifier<'a>,
+    pub element: Number,
 }
 
 /// What a lane does.
@@ -32,5 +56,23 @@ pub enum Does<'a> {
     Root {
         var: Identifier<'a>,
         on: bool,
+    },
+    Set {
+        place: Place<'a>,
+        to: Option<Identifier<'a>>,
+    },
+    Get {
+        var: Identifier<'a>,
+        place: Place<'a>,
+    },
+    Put {
+        place: Place<'a>,
+        value: Number,
+    },
+    Take {
+        place: Place<'a>,
+    },
+    Print {
+        var: Identifier<'a>,
     },
 }

@@ -1,6 +1,7 @@
 //! What an input says.
-ghost use Rattle.std.specs.Prelude.{◌≡◌, ◌∷◌, [], ◌++◌, map, string_bytes, OnOk};
+ghost use Rattle.std.specs.Prelude.{◌≡◌, ◌∷◌, [], ◌++◌, OnOk, MatchOption, slice_get, Some, None};
 
+use crate::names::NameTable;
 use class_schema::ClassTable;
 use std::alloc::{AllocError, Global};
 use std::marker::Model;
@@ -15,6 +16,16 @@ pub enum Who {
     Gc,
 }
 
+/// An element of a field of the object of a variable.
+#[derive(Clone, Copy, Debug, PartialEq, Eq)]
+pub struct Spot {
+    pub var: u32,
+    /// The number of the field's name, from 0 in the order in which lines mention them first.
+    pub field: u32,
+    /// The number of the element, from 0.
+    pub element: u32,
+}
+
 /// What a line says. Variables are numbers of the lane's object variables, from 0 in the order in
 /// which the lane's lines mention them first.
 #[derive(Clone, Copy, Debug, PartialEq, Eq)]
@@ -27,6 +38,16 @@ pub enum Cmd {
     New { var: u32, class: ClassId },
     /// The object of the variable becomes a root, or is one no longer.
     Root { var: u32, on: bool },
+    /// A reference to the object of a variable, or to none, is stored in an element.
+    Set { spot: Spot, to: Option<u32> },
+    /// The variable stands for what an element refers to.
+    Get { var: u32, spot: Spot },
+    /// A number is stored in an element.
+    Put { spot: Spot, value: u64 },
+    /// The number in an element is told.
+    Take { spot: Spot },
+    /// The object of the variable is told, with its class.
+    Print { var: u32 },
     /// The collector does a whole collection.
     GcFull,
 }
@@ -109,41 +130,40 @@ impl Counts {
     }
 }
 
-/// Names in order. Contracts see them as the list of their texts.
-#[derive(Debug, Drop)]
+/// The names of fields, by number. Contracts see them as the list of their texts.
+#[derive(Drop)]
 pub struct FieldNames {
-    items: Vec<String>,
+    names: NameTable,
 }
 
 impl Model for FieldNames {
-    ghost use Rattle.std.specs.Prelude.{ℕ, List, map, string_bytes};
+    ghost use Rattle.std.specs.Prelude.{ℕ, List};
 
     ghost Value = { List (List ℕ) };
 
-    ghost view = { λ n. map string_bytes n.items.items };
+    ghost view = { λ n. n.names };
 }
 
 impl FieldNames {
-    /// No name.
-    pub fn new(alloc: Global) -> FieldNames
-        ensures { result ≡ [] }
+    /// The names of a table.
+    pub(crate) fn from_table(names: NameTable) -> FieldNames
+        ensures { result ≡ names }
     {
-        FieldNames {
-            items: Vec::new(alloc),
-        }
+        FieldNames { names }
     }
 
-    pub fn as_slice(&self) -> &[String]
-        ensures { map string_bytes result.now ≡ self.now }
+    /// The name with a number; none where there are no more than so many names.
+    pub fn get(&self, number: u32) -> Option<&str>
+        ensures { MatchOption result (slice_get self.now number ≡ None) (λ name. slice_get self.now number ≡ Some name.now) }
     {
-        self.items.as_slice()
+        self.names.get(number)
     }
 }
 
 /// What an input says, with its names replaced by numbers.
 #[derive(Drop)]
 pub struct Script {
-    /// The classes that the header tells, and `Object`.
+    /// The classes that the header tells, with their fields, and `Object`.
     pub classes: ClassTable,
     /// The names of fields, by number.
     pub fields: FieldNames,

@@ -13,6 +13,7 @@ use Rattle.world_model.proofs.Joins.{run-append, by-append, legal_split}
 use Rattle.world_model.proofs.Solo.{state_after, state_after_one, legal_call, slices_closed}
 use Rattle.world_model.proofs.Progress.{left_to_scan, slice_progress, slice_world, idle_black, commit_done, started_world}
 use Rattle.world_model.specs.Engines.{Holdings, KeepsHeld, no_slice}
+use Rattle.std.specs.List.{AllByRecursion}
 use Rattle.world_play.specs.Header.{Header}
 use Rattle.world_play.specs.Types.{Name, Gathering, Marker, Collector, Begin, Commit, Marked, MarkStop, Swept, SweepStop, Act, Entry, Reply}
 use Rattle.world_play.specs.Types.begin
@@ -24,6 +25,7 @@ use Rattle.world_play.specs.Types.stop
 use Rattle.world_play.specs.Types.sweep
 use Rattle.world_play.specs.Plays.{Bindings, SlicesSpent, SweepsMore, PurgesAll, first_begin, full_reply}
 use Rattle.world_play.specs.Turns.{Broken}
+use Rattle.world_play.proofs.KeptKinds.{IsNoLane, kinds_kept, by_no_lane, no_lane_append, slices_no_lane}
 use Rattle.world_play.specs.Stages.{IsMarking, Marks, MarksOn, IsGathering, Finds, FindsOn, FindsSome, GoesOn, GoesOnSome, Collects}
 
 -- ---- slices
@@ -267,6 +269,13 @@ pieces old mid new a b c begins begun grown =
 begun_first : (acts : List Act) (of : List Name) (a b c d : List Entry) → acts ≡ act.BeginGc begin.Started ∷ map act.Kept of → first_begin ((((by Collector acts ++ a) ++ b) ++ c) ++ d) ≡ begin.Started
 begun_first acts of a b c d are = ap (λ (xs : List Act). first_begin ((((by Collector xs ++ a) ++ b) ++ c) ++ d)) are
 
+-- what no lane did leaves the kinds
+pub collected_kinds : (z : Sizes) (old new piece : List Entry) → new ≡ old ++ piece → Legal z new → AllByRecursion (λ (e : Entry). IsNoLane e.pass) piece → (after new).kinds ≡ (after old).kinds
+collected_kinds z old new piece grown legal none =
+    ap (λ (h : List Entry). (after h).kinds) grown
+    ∙ ap (λ (s : State). s.world.kinds) (run-append beginning old piece)
+    ∙ kinds_kept z (state_of old) piece none (legal_split z beginning old piece (subst (Legal z) grown legal)).1
+
 pub collects_all : (z : Sizes) (budget : ℕ) (header : Header) (old mid new : List Entry) (before between now : Holdings) (r : Reply) → Appends z old mid Collector (act.BeginGc begin.Started) → KeepsHeld before between → GoesOn z budget header mid new between now r → Collects z budget header old new before now r
 collects_all z budget header old mid new before between now r h held on =
     let begins : List Entry = by Collector h.acts in
@@ -296,6 +305,12 @@ collects_all z budget header old mid new before between now r h held on =
         are = refl;
       });
       answer = on.answer ∙ λ i. full_reply (left i).world (sym (begun_first h.acts h.call.of marks ends finds purges h.call.are) i);
+      kinds = collected_kinds z old new (swept ++ purges) grown on.destroys.legal
+          (no_lane_append swept purges
+          (no_lane_append ((begins ++ marks) ++ ends) finds
+          (no_lane_append (begins ++ marks) ends (no_lane_append begins marks (by_no_lane Collector h.acts tt) (slices_no_lane (Marker 0) on.slices tt)) (by_no_lane Collector (act.CommitGc commit.Done ∷ []) tt))
+          (by_no_lane Collector on.sweeps tt))
+          (slices_no_lane Collector on.destroys.purges tt));
       legal = on.destroys.legal;
       alone = on.destroys.alone;
       opened = on.destroys.opened ∙ on.opened ∙ (started_world z old mid h).1 ∙ sym (start_closed z old mid h);

@@ -38,7 +38,12 @@ use Rattle.world_play.specs.Ends.{header_of, limits_in, history_of, IsScript, Ha
 use Rattle.world_play.specs.declared.status.Status.{Status}
 use Rattle.world_play.specs.declared.status.Status.TheVariants as status
 use Rattle.world_play.specs.declared.run.Run.{Run}
-use Rattle.world_play.proofs.Lines.{feeds_append, is_line, one_feed, start_plain}
+use Rattle.class_schema.specs.Class.{Class}
+use Rattle.class_schema.specs.Ancestry.{class_at}
+use Rattle.world_play.specs.Types.{ClassId, Reply}
+use Rattle.world_play.specs.Types.reply
+use Rattle.world_play.specs.Plays.{names_after}
+use Rattle.world_play.proofs.Lines.{IsPlain, ToldPlain, feeds_append, is_line, one_feed, start_plain}
 use Rattle.world_play.proofs.Streams.{gained_none}
 
 long_outcome : (bytes : List ℕ) (limits : Limits) → nat_lt 16777216 (length bytes) ≡ true → outcome_of bytes limits ≡ Err (fault_at 0 cause.TooLong)
@@ -107,22 +112,32 @@ not_both bytes limits script fault is said = go (outcome_of bytes limits) is sai
 
 -- ---- the text of lines that were played
 
+-- no class has a name with a line feed
+abbrev pub PlainNames : List Class → Type 0
+PlainNames classes = (class : ClassId) → IsPlain (class_at classes class).name
+
+told_plain : (classes : List Class) (r : Reply) → PlainNames classes → ToldPlain classes r
+told_plain classes (reply.Object lane n class) plain = plain class
+told_plain classes r plain = tt
+
 -- the text of lines has one line feed for each
-pub text_feeds : (budget : ℕ) (header : Header) (s : State) (names last : Bindings) (lines : List Line) (pieces : List (List Entry)) → Plays budget header s names lines pieces last → line_feeds (text s lines pieces) ≡ length lines
+pub text_feeds : (budget : ℕ) (header : Header) (s : State) (names last : Bindings) (lines : List Line) (pieces : List (List Entry)) → PlainNames header.classes.classes → Plays budget header s names lines pieces last
+    → line_feeds (text header s names lines pieces) ≡ length lines
 unfolding Plays text
-text_feeds budget header s names last [] [] plays = refl
-text_feeds budget header s names last (l ∷ lines) (p ∷ pieces) plays =
-    let first : line_feeds (text_of (reply_in s l.who p)) ≡ 1 = one_feed _ (is_line (reply_in s l.who p)) in
-    let rest : line_feeds (text (run s p) lines pieces) ≡ length lines = text_feeds budget header (run s p) _ last lines pieces plays.1 in
-    omega (arith, first, rest, feeds_append (text_of (reply_in s l.who p)) (text (run s p) lines pieces))
-text_feeds budget header s names last [] (p ∷ pieces) plays = absurd plays
-text_feeds budget header s names last (l ∷ lines) [] plays = absurd plays
+text_feeds budget header s names last [] [] plain plays = refl
+text_feeds budget header s names last (l ∷ lines) (p ∷ pieces) plain plays =
+    let r : Reply = reply_in header s names l.who l.cmd p in
+    let first : line_feeds (text_of header.classes.classes r) ≡ 1 = one_feed _ (is_line header.classes.classes r (told_plain header.classes.classes r plain)) in
+    let rest = text_feeds budget header (run s p) _ last lines pieces plain plays.1 in
+    omega (arith, first, rest, feeds_append (text_of header.classes.classes r) (text header (run s p) (names_after names l.who l.cmd r) lines pieces))
+text_feeds budget header s names last [] (p ∷ pieces) plain plays = absurd plays
+text_feeds budget header s names last (l ∷ lines) [] plain plays = absurd plays
 
 -- a beginning of a reply has none
-stops_plain : (budget : ℕ) (header : Header) (s : State) (names : Bindings) (rest : List Line) (part : List Entry) (some : List ℕ) → Stops budget header s names rest part some → line_feeds some ≡ 0
-stops_plain budget header s names [] part some h = ap line_feeds h.1
-stops_plain budget header s names (l ∷ ls) part some (inl (made, none)) = ap line_feeds none
-stops_plain budget header s names (l ∷ ls) part some (inr (made, start)) = start_plain some _ start (is_line (reply_in s l.who part))
+stops_plain : (budget : ℕ) (header : Header) (s : State) (names : Bindings) (rest : List Line) (part : List Entry) (some : List ℕ) → PlainNames header.classes.classes → Stops budget header s names rest part some → line_feeds some ≡ 0
+stops_plain budget header s names [] part some plain h = ap line_feeds h.1
+stops_plain budget header s names (l ∷ ls) part some plain (inl (made, none)) = ap line_feeds none
+stops_plain budget header s names (l ∷ ls) part some plain (inr (made, start)) = let r : Reply = reply_in header s names l.who l.cmd part in start_plain some _ start (is_line header.classes.classes r (told_plain header.classes.classes r plain))
 
 -- so the number of replies that were put is that of the line feeds
 counts_gained : (had has : Option (List ℕ)) (bytes : List ℕ) (count : ℕ) → Gained had has bytes → count ≡ line_feeds bytes → CountsLines had has count
@@ -132,26 +147,26 @@ counts_gained (Some xs) has bytes count put e = (bytes, put, e)
 counts_none : (had has : Option (List ℕ)) (count : ℕ) → has ≡ had → count ≡ 0 → CountsLines had has count
 counts_none had has count same none = counts_gained had has [] count (subst (λ (now : Option (List ℕ)). Gained had now []) (sym same) (gained_none had)) none
 
-counts_all : (z : Sizes) (budget : ℕ) (header : Header) (lines : List Line) (history : List Entry) (had has : Option (List ℕ)) (count : ℕ) → Played z budget header lines history had has → count ≡ length lines → CountsLines had has count
-counts_all z budget header lines history had has count h number =
-    counts_gained had has (text beginning lines h.pieces) count h.put (number ∙ sym (text_feeds budget header beginning no_bindings h.last lines h.pieces h.plays))
+counts_all : (z : Sizes) (budget : ℕ) (header : Header) (lines : List Line) (history : List Entry) (had has : Option (List ℕ)) (count : ℕ) → PlainNames header.classes.classes → Played z budget header lines history had has → count ≡ length lines → CountsLines had has count
+counts_all z budget header lines history had has count plain h number =
+    counts_gained had has (text header beginning no_bindings lines h.pieces) count h.put (number ∙ sym (text_feeds budget header beginning no_bindings h.last lines h.pieces plain h.plays))
 
-counts_some : (z : Sizes) (budget : ℕ) (header : Header) (lines : List Line) (history : List Entry) (had has : Option (List ℕ)) (count : ℕ) → Stopped z budget header lines history had has count → CountsLines had has count
-counts_some z budget header lines history had has count h =
-    let whole : line_feeds (text beginning h.whole h.pieces) ≡ length h.whole = text_feeds budget header beginning no_bindings h.names h.whole h.pieces h.plays in
-    let rest : line_feeds h.some ≡ 0 = stops_plain budget header _ h.names h.rest h.part h.some h.stops in
-    counts_gained had has (text beginning h.whole h.pieces ++ h.some) count h.put (omega (arith, h.number, whole, rest, feeds_append (text beginning h.whole h.pieces) h.some))
+counts_some : (z : Sizes) (budget : ℕ) (header : Header) (lines : List Line) (history : List Entry) (had has : Option (List ℕ)) (count : ℕ) → PlainNames header.classes.classes → Stopped z budget header lines history had has count → CountsLines had has count
+counts_some z budget header lines history had has count plain h =
+    let whole : line_feeds (text header beginning no_bindings h.whole h.pieces) ≡ length h.whole = text_feeds budget header beginning no_bindings h.names h.whole h.pieces plain h.plays in
+    let rest : line_feeds h.some ≡ 0 = stops_plain budget header _ h.names h.rest h.part h.some plain h.stops in
+    counts_gained had has (text header beginning no_bindings h.whole h.pieces ++ h.some) count h.put (omega (arith, h.number, whole, rest, feeds_append (text header beginning no_bindings h.whole h.pieces) h.some))
 
 -- ---- what a run that played says of the whole of it
 
-pub counts_of : (z : Sizes) (budget : ℕ) (how : Status) (script : Script) (r : Option (List Entry)) (had has : Option (List ℕ)) (count : ℕ) → WasPlayed z budget how script r had has count → CountsLines had has count
-counts_of z budget how script None had has count h = counts_none had has count h.0 h.1
-counts_of z budget status.Ok script (Some history) had has count h = counts_all z budget _ script.lines _ had has count h.0 h.1
-counts_of z budget status.Usage script (Some history) had has count h = counts_some z budget _ script.lines _ had has count h
-counts_of z budget (status.Script fault) script (Some history) had has count h = counts_some z budget _ script.lines _ had has count h
-counts_of z budget status.ReadFault script (Some history) had has count h = counts_some z budget _ script.lines _ had has count h
-counts_of z budget status.WriteFault script (Some history) had has count h = counts_some z budget _ script.lines _ had has count h
-counts_of z budget status.Memory script (Some history) had has count h = counts_some z budget _ script.lines _ had has count h
+pub counts_of : (z : Sizes) (budget : ℕ) (how : Status) (script : Script) (r : Option (List Entry)) (had has : Option (List ℕ)) (count : ℕ) → PlainNames script.classes.classes → WasPlayed z budget how script r had has count → CountsLines had has count
+counts_of z budget how script None had has count plain h = counts_none had has count h.0 h.1
+counts_of z budget status.Ok script (Some history) had has count plain h = counts_all z budget (header_of script) script.lines _ had has count plain h.0 h.1
+counts_of z budget status.Usage script (Some history) had has count plain h = counts_some z budget (header_of script) script.lines _ had has count plain h
+counts_of z budget (status.Script fault) script (Some history) had has count plain h = counts_some z budget (header_of script) script.lines _ had has count plain h
+counts_of z budget status.ReadFault script (Some history) had has count plain h = counts_some z budget (header_of script) script.lines _ had has count plain h
+counts_of z budget status.WriteFault script (Some history) had has count plain h = counts_some z budget (header_of script) script.lines _ had has count plain h
+counts_of z budget status.Memory script (Some history) had has count plain h = counts_some z budget (header_of script) script.lines _ had has count plain h
 
 -- a run that played nothing
 pub counts_unplayed : (held : Option (List ℕ)) (count : ℕ) → count ≡ 0 → CountsLines held held count
@@ -174,7 +189,7 @@ headline_of w status.Memory left now script r had has count is taken h = tt
 -- ---- the classes of a script that can be played
 
 -- the class of a line that fits is there
-fits_class : (vars : List ℕ) (header : Header) (frames : List Bool) (w : Who) (what : Cmd) → frame.fits vars (length header.classes.classes) frames w what ≡ true → HasClass header what
+fits_class : (vars : List ℕ) (header : Header) (frames : List Bool) (w : Who) (what : Cmd) → frame.fits vars (length header.classes.classes) (length header.fields) frames w what ≡ true → HasClass header what
 fits_class vars header frames (who.Lane lane) (cmd.New var class) h =
     let parts = and_true (nat_lt lane (length frames)) _ h in
     let last : nat_lt class.0 (length header.classes.classes) ≡ true = (and_true (slice_index_or frames lane false && nat_lt var (slice_index vars lane)) (nat_lt class.0 (length header.classes.classes)) parts.1).1 in
@@ -183,13 +198,18 @@ fits_class vars header frames who.Gc (cmd.New var class) h = absurd cc
 fits_class vars header frames w cmd.Open h = tt
 fits_class vars header frames w cmd.Close h = tt
 fits_class vars header frames w (cmd.Root var on) h = tt
+fits_class vars header frames w (cmd.Set spot to) h = tt
+fits_class vars header frames w (cmd.Get var spot) h = tt
+fits_class vars header frames w (cmd.Put spot value) h = tt
+fits_class vars header frames w (cmd.Take spot) h = tt
+fits_class vars header frames w (cmd.Print var) h = tt
 fits_class vars header frames w cmd.GcFull h = tt
 
-framed_classes : (vars : List ℕ) (header : Header) (frames : List Bool) (lines : List Line) → are_framed vars (length header.classes.classes) frames lines ≡ true → AllByRecursion (λ l. HasClass header l.cmd) lines
+framed_classes : (vars : List ℕ) (header : Header) (frames : List Bool) (lines : List Line) → are_framed vars (length header.classes.classes) (length header.fields) frames lines ≡ true → AllByRecursion (λ l. HasClass header l.cmd) lines
 unfolding are_framed
 framed_classes vars header frames [] h = tt
 framed_classes vars header frames (l ∷ lines) h =
-    let parts = and_true (frame.fits vars (length header.classes.classes) frames l.who l.cmd) _ h in
+    let parts = and_true (frame.fits vars (length header.classes.classes) (length header.fields) frames l.who l.cmd) _ h in
     (fits_class vars header frames l.who l.cmd parts.0, framed_classes vars header (frame.frames_after frames l.who l.cmd) lines parts.1)
 
 outcome_played : OneText → (z : Sizes) (budget : ℕ) (limits : Limits) (script : Script) (history : List Entry) (had has : Option (List ℕ)) → IsPlayable limits script → Played z budget (header_of script) script.lines history had has → Gained had has (outcome z (header_of script) script.lines)

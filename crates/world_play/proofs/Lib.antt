@@ -8,6 +8,9 @@ pub mod Lines
 pub mod Streams
 pub mod Keeping
 pub mod Turning
+pub mod Storing
+pub mod KeptKinds
 pub mod Collecting
 pub mod Playing
 pub mod Ending
+pub mod Reached

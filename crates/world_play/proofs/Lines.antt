@@ -1,12 +1,19 @@
 -- The text of each reply is one line: its one line feed stands at its end.
-use Rattle.std.proofs.Common.{◌≡◌, ◌≢◌, ℕ, zero, suc, ◌+◌, ◌<◌, ◌/◌, ◌%◌, ◌==◌, Bool, true, false, cond, List, [], ◌∷◌, ◌++◌, append_assoc, flat_map, refl, sym, ap, ◌∙◌, arith}
+use Rattle.std.proofs.Common.{◌≡◌, ◌≢◌, ℕ, zero, suc, ◌+◌, ◌<◌, ◌/◌, ◌%◌, ◌==◌, Bool, true, false, cond, List, [], ◌∷◌, ◌++◌, append_assoc, flat_map, Option, Some, None, refl, sym, ap, ◌∙◌, arith, subst, get_or}
 use Rattle.std.specs.Prelude.{codes, decimal, nat_lt}
 use Rattle.std.specs.Fmt.{digit_glyph, digits_onto, digits}
+use Rattle.std.specs.List.{list_all, AllByRecursion}
+use Rattle.std.proofs.lemmas.Bool.{eqb-true}
 use Rattle.std.proofs.lemmas.Bool.Decides.{nat_tests}
+use Rattle.world_model.proofs.ListFacts.{and_true}
+use Rattle.level_script.specs.Forms.{continues_identifier}
+use Rattle.level_script.specs.Frames.{IsNamed}
 use Rattle.std.proofs.lemmas.List.Sums.{sum_by-append, sum_by-cons}
-use Rattle.world_play.specs.Types.{Name, Phase, Idle, Marking, Gathering, Reply}
+use Rattle.class_schema.specs.Class.{Class}
+use Rattle.class_schema.specs.Ancestry.{object, class_at}
+use Rattle.world_play.specs.Types.{Name, ClassId, Phase, Idle, Marking, Gathering, Reply}
 use Rattle.world_play.specs.Types.reply
-use Rattle.world_play.specs.Text.{phase_text, name_text, names_text, text_of}
+use Rattle.world_play.specs.Text.{phase_text, object_text, name_text, names_text, text_of}
 use Rattle.world_play.specs.Streams.{IsStart, line_feeds}
 
 -- no byte is a line feed
@@ -55,6 +62,27 @@ plain_names : (names : List Name) → IsPlain (names_text names)
 plain_names [] = record { none = refl }
 plain_names (n ∷ names) = plain_append (codes ":") _ (record { none = refl }) (plain_list (n ∷ names))
 
+-- no byte of an identifier is a line feed
+no_feed : (b : ℕ) → continues_identifier b ≡ true → (b == 10) ≡ false
+no_feed b h = go (b == 10) refl
+  where
+    go : (t : Bool) → (b == 10) ≡ t → (b == 10) ≡ false
+    go false e = e
+    go true e = absurd (let wrong : continues_identifier 10 ≡ true = subst (λ n. continues_identifier n ≡ true) (eqb-true b 10 e) h in cc)
+
+plain_word : (bytes : List ℕ) → list_all continues_identifier bytes ≡ true → IsPlain bytes
+plain_word [] h = record { none = refl }
+plain_word (b ∷ bytes) h =
+    let parts = and_true (continues_identifier b) _ h in
+    let rest = (plain_word bytes parts.1).none in
+    record { none = sum_by-cons (λ x. cond (x == 10) 1 0) b bytes ∙ rw (no_feed b parts.0) (omega (arith, rest)) }
+
+-- the names of classes have none
+pub plain_class : (classes : List Class) (n : ℕ) → AllByRecursion IsNamed classes → IsPlain (get_or classes n object).name
+plain_class [] n named = record { none = refl }
+plain_class (c ∷ classes) zero named = plain_word c.name named.0.bytes
+plain_class (c ∷ classes) (suc n) named = plain_class classes n named.1
+
 -- a text that ends with its one line feed
 pub record IsLine (bytes : List ℕ) : Type 0 where
   pub body : List ℕ
@@ -76,20 +104,40 @@ plain_was : (was : Bool) → IsPlain (cond was (codes "on") (codes "off"))
 plain_was true = record { none = refl }
 plain_was false = record { none = refl }
 
-pub is_line : (r : Reply) → IsLine (text_of r)
-is_line (reply.Opened lane phase) = before (decimal lane) _ (plain_decimal lane) (words (codes " open ") _ refl (before (phase_text phase) _ (plain_phase phase) ends))
-is_line (reply.Closed lane) = before (decimal lane) _ (plain_decimal lane) (words (codes " close") (codes "\n") refl ends)
-is_line (reply.New lane n) =
+-- the class of a reply has a name without a line feed
+abbrev pub ToldPlain : List Class → Reply → Type 0
+ToldPlain classes (reply.Object lane n class) = IsPlain (class_at classes class).name
+ToldPlain classes _ = Unit {0}
+
+plain_object : (o : Option Name) → IsPlain (object_text o)
+plain_object None = record { none = refl }
+plain_object (Some n) = plain_append (decimal n.lane) _ (plain_decimal n.lane) (plain_append (codes ":") _ (record { none = refl }) (plain_decimal n.count))
+
+pub is_line : (classes : List Class) (r : Reply) → ToldPlain classes r → IsLine (text_of classes r)
+is_line classes (reply.Opened lane phase) plain = before (decimal lane) _ (plain_decimal lane) (words (codes " open ") _ refl (before (phase_text phase) _ (plain_phase phase) ends))
+is_line classes (reply.Closed lane) plain = before (decimal lane) _ (plain_decimal lane) (words (codes " close") (codes "\n") refl ends)
+is_line classes (reply.New lane n) plain =
     before (decimal lane) _ (plain_decimal lane)
     (words (codes " new ") _ refl (before (decimal n.lane) _ (plain_decimal n.lane) (words (codes ":") _ refl (before (decimal n.count) _ (plain_decimal n.count) ends))))
-is_line (reply.Full lane free) = before (decimal lane) _ (plain_decimal lane) (words (codes " full ") _ refl (before (decimal free) _ (plain_decimal free) ends))
-is_line (reply.NamesSpent lane left) = before (decimal lane) _ (plain_decimal lane) (words (codes " names spent ") _ refl (before (decimal left) _ (plain_decimal left) ends))
-is_line (reply.WasRoot lane was) = before (decimal lane) _ (plain_decimal lane) (words (codes " was ") _ refl (before (cond was (codes "on") (codes "off")) _ (plain_was was) ends))
-is_line (reply.NoObject lane) = before (decimal lane) _ (plain_decimal lane) (words (codes " none") (codes "\n") refl ends)
-is_line (reply.Running phase) = words (codes "gc running ") _ refl (before (phase_text phase) _ (plain_phase phase) ends)
-is_line (reply.Purging left) = words (codes "gc purging ") _ refl (before (decimal left) _ (plain_decimal left) ends)
-is_line (reply.Pending frames) = words (codes "gc pending frames ") _ refl (before (decimal frames) _ (plain_decimal frames) ends)
-is_line (reply.FullGc removed left names) =
+is_line classes (reply.Full lane free) plain = before (decimal lane) _ (plain_decimal lane) (words (codes " full ") _ refl (before (decimal free) _ (plain_decimal free) ends))
+is_line classes (reply.NamesSpent lane left) plain = before (decimal lane) _ (plain_decimal lane) (words (codes " names spent ") _ refl (before (decimal left) _ (plain_decimal left) ends))
+is_line classes (reply.WasRoot lane was) plain = before (decimal lane) _ (plain_decimal lane) (words (codes " was ") _ refl (before (cond was (codes "on") (codes "off")) _ (plain_was was) ends))
+is_line classes (reply.Was lane old) plain = before (decimal lane) _ (plain_decimal lane) (words (codes " was ") _ refl (before (object_text old) _ (plain_object old) ends))
+is_line classes (reply.WasNumber lane old) plain = before (decimal lane) _ (plain_decimal lane) (words (codes " was ") _ refl (before (decimal old) _ (plain_decimal old) ends))
+is_line classes (reply.Is lane got) plain = before (decimal lane) _ (plain_decimal lane) (words (codes " is ") _ refl (before (object_text got) _ (plain_object got) ends))
+is_line classes (reply.IsNumber lane got) plain = before (decimal lane) _ (plain_decimal lane) (words (codes " is ") _ refl (before (decimal got) _ (plain_decimal got) ends))
+is_line classes (reply.Object lane n class) plain =
+    before (decimal lane) _ (plain_decimal lane)
+    (words (codes " object ") _ refl (before (decimal n.lane) _ (plain_decimal n.lane) (words (codes ":") _ refl (before (decimal n.count) _ (plain_decimal n.count) (words (codes " ") _ refl (before (class_at classes class).name _ plain ends))))))
+is_line classes (reply.NoField lane) plain = before (decimal lane) _ (plain_decimal lane) (words (codes " no field") (codes "\n") refl ends)
+is_line classes (reply.WrongKind lane) plain = before (decimal lane) _ (plain_decimal lane) (words (codes " wrong kind") (codes "\n") refl ends)
+is_line classes (reply.NoElement lane) plain = before (decimal lane) _ (plain_decimal lane) (words (codes " no element") (codes "\n") refl ends)
+is_line classes (reply.WrongClass lane) plain = before (decimal lane) _ (plain_decimal lane) (words (codes " wrong class") (codes "\n") refl ends)
+is_line classes (reply.NoObject lane) plain = before (decimal lane) _ (plain_decimal lane) (words (codes " none") (codes "\n") refl ends)
+is_line classes (reply.Running phase) plain = words (codes "gc running ") _ refl (before (phase_text phase) _ (plain_phase phase) ends)
+is_line classes (reply.Purging left) plain = words (codes "gc purging ") _ refl (before (decimal left) _ (plain_decimal left) ends)
+is_line classes (reply.Pending frames) plain = words (codes "gc pending frames ") _ refl (before (decimal frames) _ (plain_decimal frames) ends)
+is_line classes (reply.FullGc removed left names) plain =
     words (codes "gc full removed ") _ refl
     (before (decimal removed) _ (plain_decimal removed) (words (codes " left ") _ refl (before (decimal left) _ (plain_decimal left) (before (names_text names) _ (plain_names names) ends))))
 
@@ -123,5 +171,30 @@ start_plain some bytes (more, other, is) line =
     omega (arith, one, both, feeds_append some more, behind)
 
 -- nothing is a beginning of a reply's text
-pub start_none : (r : Reply) → IsStart [] (text_of r)
-start_none r = (text_of r, line_some (text_of r) (is_line r), refl)
+some_object : (classes : List Class) (lane : ℕ) (n : Name) (class : ClassId) → text_of classes (reply.Object lane n class) ≢ []
+some_object classes lane n class none = let behind = nothing_behind (decimal lane) _ none in absurd cc
+
+some_text : (classes : List Class) (r : Reply) → text_of classes r ≢ []
+some_text classes (reply.Object lane n class) = some_object classes lane n class
+some_text classes (reply.Opened lane phase) = line_some _ (is_line classes (reply.Opened lane phase) tt)
+some_text classes (reply.Closed lane) = line_some _ (is_line classes (reply.Closed lane) tt)
+some_text classes (reply.New lane n) = line_some _ (is_line classes (reply.New lane n) tt)
+some_text classes (reply.Full lane free) = line_some _ (is_line classes (reply.Full lane free) tt)
+some_text classes (reply.NamesSpent lane left) = line_some _ (is_line classes (reply.NamesSpent lane left) tt)
+some_text classes (reply.WasRoot lane was) = line_some _ (is_line classes (reply.WasRoot lane was) tt)
+some_text classes (reply.Was lane old) = line_some _ (is_line classes (reply.Was lane old) tt)
+some_text classes (reply.WasNumber lane old) = line_some _ (is_line classes (reply.WasNumber lane old) tt)
+some_text classes (reply.Is lane got) = line_some _ (is_line classes (reply.Is lane got) tt)
+some_text classes (reply.IsNumber lane got) = line_some _ (is_line classes (reply.IsNumber lane got) tt)
+some_text classes (reply.NoObject lane) = line_some _ (is_line classes (reply.NoObject lane) tt)
+some_text classes (reply.NoField lane) = line_some _ (is_line classes (reply.NoField lane) tt)
+some_text classes (reply.WrongKind lane) = line_some _ (is_line classes (reply.WrongKind lane) tt)
+some_text classes (reply.NoElement lane) = line_some _ (is_line classes (reply.NoElement lane) tt)
+some_text classes (reply.WrongClass lane) = line_some _ (is_line classes (reply.WrongClass lane) tt)
+some_text classes (reply.Running phase) = line_some _ (is_line classes (reply.Running phase) tt)
+some_text classes (reply.Purging left) = line_some _ (is_line classes (reply.Purging left) tt)
+some_text classes (reply.Pending frames) = line_some _ (is_line classes (reply.Pending frames) tt)
+some_text classes (reply.FullGc removed left names) = line_some _ (is_line classes (reply.FullGc removed left names) tt)
+
+pub start_none : (classes : List Class) (r : Reply) → IsStart [] (text_of classes r)
+start_none classes r = (text_of classes r, some_text classes r, refl)

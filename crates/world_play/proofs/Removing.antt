@@ -1,4 +1,4 @@
--- What a whole collection removes and finds in a legal history, where no object refers to another.
+-- What a whole collection removes and finds in a legal history.
 use Rattle.std.proofs.Common.{◌≡◌, ℕ, ◌+◌, ◌*◌, ◌<◌, ◌≤◌, arith, length, refl, sym, subst, ap, ◌∙◌, inl, inr, Bool, cond, true, false, not, ◌&&◌, List, [], ◌∷◌, ◌++◌, append_assoc, map, Option, Some, None, ◌⊎◌, filter}
 use Rattle.std.specs.List.{list_any, list_all, flat_map}
 use Rattle.std.proofs.lemmas.List.{length-map}
@@ -6,7 +6,7 @@ use Rattle.std.proofs.lemmas.Bool.{both_ways, not-true, false_from_ne_true}
 use Rattle.world_model.specs.Sizes.{Sizes}
 use Rattle.world_model.specs.NameLists.{same_name, has, all_different, members}
 use Rattle.world_model.specs.World.{World, Removal, Removed, is_at}
-use Rattle.world_model.specs.Reach.{graph, IsUnit, IsRootUnit, Walk, IsReached}
+use Rattle.world_model.specs.Reach.{graph, IsUnit, IsRootUnit, IsReached}
 use Rattle.world_model.specs.State.{State, Marks, is_marked, white_units}
 use Rattle.world_model.specs.CollectorSteps.{IsIdle, Sweeps, SweepMay}
 use Rattle.world_model.specs.Next.{next, run, committed, with_found, settled}
@@ -19,12 +19,14 @@ use Rattle.world_model.proofs.Joins.{run-append, by-append, legal_split, legal_j
 use Rattle.world_model.proofs.Collections.{all_append, keeps_mark, slices_mark, collect_is_exact_holds}
 use Rattle.world_model.proofs.Progress.{marks_leave}
 use Rattle.world_play.specs.Header.{Header}
-use Rattle.world_play.specs.Types.{Name, Phase, Idle, Marking, Swept, SweepStop, Pass, Marker, Collector, Act, Entry}
+use Rattle.std.specs.Prelude.{slice_get}
+use Rattle.world_play.specs.Types.{Name, Kind, Phase, Idle, Marking, Swept, SweepStop, Pass, Marker, Collector, Act, Entry}
 use Rattle.world_play.specs.Types.act
 use Rattle.world_play.specs.Types.begin
 use Rattle.world_play.specs.Types.sweep
 use Rattle.world_play.specs.Plays.{SweepsMore, SweepsAll, Collected, first_begin}
-use Rattle.world_play.specs.Outcome.{Scene, unreached, collected}
+use Rattle.world_play.specs.Outcome.{Scene, is_reached, unreached, collected}
+use Rattle.world_play.proofs.Reached.{TellsRoots, reached_told, told_reached}
 use Rattle.world_model.specs.Hooks.{class_of}
 use Rattle.world_play.proofs.Order.{same_order}
 use Rattle.world_play.proofs.Destroying.{weight, weight_most, names_of, removed_name, InTable, purges_end}
@@ -33,17 +35,18 @@ use Rattle.world_play.proofs.Different.{NoneShared, has_append, different_append
 -- ---- what a world shows
 
 abbrev pub scene_of : World → Scene
-scene_of w = record { kinds = w.kinds; units = w.units; rooted = w.rooted; opened = w.opened }
+scene_of w = record { kinds = w.kinds; cell = w.cell; plain = w.plain; units = w.units; rooted = w.rooted; opened = w.opened }
 
--- no collection runs, nothing is removed that is not released, no object refers to another, and no strong pointer names one
-pub record AreStill (phase : Phase) (removals : List Removal) (cell : Name → ℕ → Option Name) (strong : ℕ → ℕ → Option Name) : Type 0 where
+-- no collection runs, nothing is removed that is not released, objects have so many cells, and no strong pointer names one
+pub record AreStill (slots : ℕ) (phase : Phase) (removals : List Removal) (kinds : ℕ → List Kind) (cell : Name → ℕ → Option Name) (strong : ℕ → ℕ → Option Name) : Type 0 where
   pub idle : phase ≡ Idle
   pub released : removals ≡ []
-  pub cells : (n : Name) (slot : ℕ) → cell n slot ≡ None
+  pub cells : (n : Name) (slot : ℕ) → slots ≤ slot → cell n slot ≡ None
   pub pointers : (lane number : ℕ) → strong lane number ≡ None
+  pub fits : (lane i : ℕ) (k : Kind) → slice_get (kinds lane) i ≡ Some k → k.refs ≤ slots
 
-abbrev pub IsCalm : World → Type 0
-IsCalm w = AreStill w.phase w.removals w.cell w.strong
+abbrev pub IsCalm : Sizes → World → Type 0
+IsCalm z w = AreStill z.slots w.phase w.removals w.kinds w.cell w.strong
 
 -- ---- what is reached
 
@@ -51,41 +54,42 @@ IsCalm w = AreStill w.phase w.removals w.cell w.strong
 none_some : {A : Type 0} (o : Option A) (x : A) → o ≡ None → o ≡ Some x → ⊥
 none_some o x none some = absurd cc
 
--- a root unit has a rooted member, and no walk takes a step
-reached_rooted : (w : World) → IsCalm w → (u : List Name) → IsReached (graph w) u → list_any w.rooted u ≡ true
-reached_rooted w calm u h = ends h.rest h.walk
+-- a root unit is one with a rooted member
+roots_told : (z : Sizes) (w : World) → IsCalm z w → TellsRoots (graph w) (list_any w.rooted)
+roots_told z w calm = record {
+  sound = λ u h. let found = test_among w.rooted u h in (found.0, among_has u found.0 found.1, inl found.2);
+  whole = λ u root. told u root;
+}
   where
-    root : IsRootUnit (graph w) h.root → list_any w.rooted h.root ≡ true
-    root (n, own, inl rooted) = among_test w.rooted h.root n (has_among h.root n own) rooted
-    root (n, own, inr strong) = absurd (none_some (w.strong strong.0 strong.1) n (calm.pointers strong.0 strong.1) strong.2)
+    told : (u : List Name) → IsRootUnit (graph w) u → list_any w.rooted u ≡ true
+    told u (n, own, inl rooted) = among_test w.rooted u n (has_among u n own) rooted
+    told u (n, own, inr strong) = absurd (none_some (w.strong strong.0 strong.1) n (calm.pointers strong.0 strong.1) strong.2)
 
-    ends : (rest : List (List Name)) → Walk (graph w) h.root rest u → list_any w.rooted u ≡ true
-    ends [] walk = subst (λ (v : List Name). list_any w.rooted v ≡ true) walk (root h.is_root)
-    ends (next ∷ rest) walk = let step = walk.1 in absurd (none_some (w.cell step.from step.slot) step.to (calm.cells step.from step.slot) step.cell)
+-- what is reached is seen in the scene, and what is seen is reached
+reached_seen : (z : Sizes) (w : World) → IsCalm z w → (u : List Name) → IsReached (graph w) u → is_reached z (scene_of w) u ≡ true
+reached_seen z w calm u h = reached_told z.slots (list_any w.rooted) (graph w) u calm.cells (roots_told z w calm) h
 
-rooted_reached : (w : World) (u : List Name) → IsUnit (graph w) u → list_any w.rooted u ≡ true → IsReached (graph w) u
-rooted_reached w u unit h =
-    let found = test_among w.rooted u h in
-    record { root = u; rest = []; unit = unit; is_root = (found.0, among_has u found.0 found.1, inl found.2); walk = refl }
+seen_reached : (z : Sizes) (w : World) → IsCalm z w → (u : List Name) → IsUnit (graph w) u → is_reached z (scene_of w) u ≡ true → IsReached (graph w) u
+seen_reached z w calm u unit h = told_reached z.slots (list_any w.rooted) (graph w) u (roots_told z w calm) unit h
 
 -- two tests of which each follows from the other
 same_test : (a b : Bool) → (a ≡ true → b ≡ true) → (b ≡ true → a ≡ true) → a ≡ b
 same_test true b f g = sym (f refl)
 same_test false b f g = sym (false_from_ne_true b (λ e. both_ways false refl (g e)))
 
--- where the units that pass a test are the reached ones, the test says whether a member is rooted
-passes_reached : (w new : World) (test : List Name → Bool) → IsCalm w → new.units ≡ filter test w.units → KeepsReached (graph w) (graph new)
-    → (u : List Name) → Among w.units u → test u ≡ list_any w.rooted u
-passes_reached w new test calm are keeps u among = same_test (test u) (list_any w.rooted u) reached passes
+-- where the units that pass a test are the reached ones, the test says which are reached
+passes_reached : (z : Sizes) (w new : World) (test : List Name → Bool) → IsCalm z w → new.units ≡ filter test w.units → KeepsReached (graph w) (graph new)
+    → (u : List Name) → Among w.units u → test u ≡ is_reached z (scene_of w) u
+passes_reached z w new test calm are keeps u among = same_test (test u) (is_reached z (scene_of w) u) reached passes
   where
-    reached : test u ≡ true → list_any w.rooted u ≡ true
+    reached : test u ≡ true → is_reached z (scene_of w) u ≡ true
     reached e =
         let kept : Among new.units u = subst (λ (units : List (List Name)). Among units u) (sym are) (filter_among test w.units u among e) in
-        reached_rooted w calm u ((keeps u).0 (among_contains new.units u kept))
+        reached_seen z w calm u ((keeps u).0 (among_contains new.units u kept))
 
-    passes : list_any w.rooted u ≡ true → test u ≡ true
+    passes : is_reached z (scene_of w) u ≡ true → test u ≡ true
     passes e =
-        let stays : IsUnit (graph new) u = (keeps u).1 (rooted_reached w u (among_contains w.units u among) e) in
+        let stays : IsUnit (graph new) u = (keeps u).1 (seen_reached z w calm u (among_contains w.units u among) e) in
         among_filter_test test w.units u (subst (λ (units : List (List Name)). Among units u) are (contains_among new.units u stays))
 
 -- ---- a commit
@@ -101,14 +105,14 @@ names_of_new [] = refl
 names_of_new (n ∷ names) = ap (λ (rest : List Name). n ∷ rest) (names_of_new names)
 
 -- a commit that keeps the reached units leaves the scene that a collection leaves, and removes what is not reached
-committed_scene : (m : Marks) (w : World) → IsCalm w → KeepsReached (graph w) (graph (committed m w)) → (scene_of (committed m w) ≡ collected (scene_of w)) × (names_of (committed m w).removals ≡ unreached (scene_of w))
-committed_scene m w calm keeps =
-    let marks : (u : List Name) → Among w.units u → is_marked m u ≡ list_any w.rooted u = passes_reached w (committed m w) (is_marked m) calm refl keeps in
-    let stay : filter (is_marked m) w.units ≡ filter (list_any w.rooted) w.units = filter_same (is_marked m) (list_any w.rooted) w.units marks in
-    let go : white_units m w ≡ filter (λ u. not (list_any w.rooted u)) w.units =
-    filter_same (λ u. not (is_marked m u)) (λ u. not (list_any w.rooted u)) w.units (λ u h. ap not (marks u h)) in
-    let gone : members (white_units m w) ≡ unreached (scene_of w) = ap members go in
-    (λ i. record { kinds = w.kinds; units = stay i; rooted = λ n. w.rooted n && not (has (gone i) n); opened = w.opened }, names_of_new (members (white_units m w)) ∙ gone)
+committed_scene : (z : Sizes) (m : Marks) (w : World) → IsCalm z w → KeepsReached (graph w) (graph (committed m w)) → (scene_of (committed m w) ≡ collected z (scene_of w)) × (names_of (committed m w).removals ≡ unreached z (scene_of w))
+committed_scene z m w calm keeps =
+    let marks : (u : List Name) → Among w.units u → is_marked m u ≡ is_reached z (scene_of w) u = passes_reached z w (committed m w) (is_marked m) calm refl keeps in
+    let stay : filter (is_marked m) w.units ≡ filter (is_reached z (scene_of w)) w.units = filter_same (is_marked m) (is_reached z (scene_of w)) w.units marks in
+    let go : white_units m w ≡ filter (λ u. not (is_reached z (scene_of w) u)) w.units =
+    filter_same (λ u. not (is_marked m u)) (λ u. not (is_reached z (scene_of w) u)) w.units (λ u h. ap not (marks u h)) in
+    let gone : members (white_units m w) ≡ unreached z (scene_of w) = ap members go in
+    (λ i. record { kinds = w.kinds; cell = w.cell; plain = w.plain; units = stay i; rooted = λ n. w.rooted n && not (has (gone i) n); opened = w.opened }, names_of_new (members (white_units m w)) ∙ gone)
 
 -- ---- sweeps
 
@@ -202,16 +206,16 @@ finds_all z w s budget sweeps h legal all =
 -- ---- a whole collection
 
 -- what a whole collection comes upon, finds and leaves
-pub record HasCollected (w : World) (piece : List Entry) (new : World) : Type 0 where
+pub record HasCollected (z : Sizes) (w : World) (piece : List Entry) (new : World) : Type 0 where
   pub begun : first_begin piece ≡ begin.Started
   pub closed : w.opened ≡ []
-  pub gone : all_different (unreached (scene_of w)) ≡ true
+  pub gone : all_different (unreached z (scene_of w)) ≡ true
   pub found : all_different new.found ≡ true
-  pub same : (n : Name) → has new.found n ≡ has (unreached (scene_of w)) n
-  pub scene : scene_of new ≡ collected (scene_of w)
-  pub calm : IsCalm new
+  pub same : (n : Name) → has new.found n ≡ has (unreached z (scene_of w)) n
+  pub scene : scene_of new ≡ collected z (scene_of w)
+  pub calm : IsCalm z new
 
-module _ (z : Sizes) (budget : ℕ) (header : Header) (old piece : List Entry) (before : Legal z old) (calm : IsCalm (after old)) (table : InTable header (after old))
+module _ (z : Sizes) (budget : ℕ) (header : Header) (old piece : List Entry) (before : Legal z old) (calm : IsCalm z (after old)) (table : InTable header (after old))
     (whole : LegalFrom z (state_of old) piece) (h : Collected budget header (state_of old) piece) where
   abbrev s : State
   s = state_of old
@@ -283,8 +287,8 @@ module _ (z : Sizes) (budget : ℕ) (header : Header) (old piece : List Entry) (
       (collect_is_exact_holds z old (old ++ half) budget
       (record { begins = h.begins; slices = h.slices; begun = h.begun; marked = h.marked; grown = grown; legal = joined }))
 
-  kept_scene : (scene_of kept ≡ collected (scene_of w)) × (names_of kept.removals ≡ unreached (scene_of w))
-  kept_scene = committed_scene to_commit.marks w calm keeps_reached
+  kept_scene : (scene_of kept ≡ collected z (scene_of w)) × (names_of kept.removals ≡ unreached z (scene_of w))
+  kept_scene = committed_scene z to_commit.marks w calm keeps_reached
 
   -- the state after the sweeps
   abbrev swept : State
@@ -303,21 +307,21 @@ module _ (z : Sizes) (budget : ℕ) (header : Header) (old piece : List Entry) (
       let entries : h.front ≡ half ++ (more ++ by Collector last) = h.found ∙ ap (λ (es : List Entry). half ++ es) (ap (by Collector) h.swept.are ∙ by-append Collector h.swept.more last) in
       ap (λ (es : List Entry). (run s es).collector.agreed) entries ∙ ap (λ (t : State). t.collector.agreed) (run-append s half (more ++ by Collector last) ∙ run-append (run s half) more (by Collector last))
 
-  gone_different : all_different (unreached (scene_of w)) ≡ true
+  gone_different : all_different (unreached z (scene_of w)) ≡ true
   gone_different = different_filter _ w.units (members_different z old before)
 
   -- the removed objects are those that no root reaches
-  names_gone : names_of swept.world.removals ≡ unreached (scene_of w)
+  names_gone : names_of swept.world.removals ≡ unreached z (scene_of w)
   names_gone = ap (λ (v : World). names_of v.removals) has_found.world ∙ kept_scene.1
 
-  found_same : (n : Name) → has swept.world.found n ≡ has (unreached (scene_of w)) n
+  found_same : (n : Name) → has swept.world.found n ≡ has (unreached z (scene_of w)) n
   found_same n = has_found.same n ∙ ap (λ (names : List Name). has names n) kept_scene.1
 
   -- and their number is that of the found ones
   few : weight swept.world.removals ≤ 103 * length swept.world.found
   few =
-      let count : length swept.world.found ≡ length (unreached (scene_of w)) = (same_order swept.world.found (unreached (scene_of w)) has_found.different gone_different found_same).1 in
-      let names : length swept.world.removals ≡ length (unreached (scene_of w)) = sym (length-map swept.world.removals (λ (r : Removal). r.name)) ∙ ap length names_gone in
+      let count : length swept.world.found ≡ length (unreached z (scene_of w)) = (same_order swept.world.found (unreached z (scene_of w)) has_found.different gone_different found_same).1 in
+      let names : length swept.world.removals ≡ length (unreached z (scene_of w)) = sym (length-map swept.world.removals (λ (r : Removal). r.name)) ∙ ap length names_gone in
       omega (arith, weight_most swept.world.removals, count, names)
 
   -- the purges leave nothing of them
@@ -329,7 +333,7 @@ module _ (z : Sizes) (budget : ℕ) (header : Header) (old piece : List Entry) (
       (record { different = ap all_different names_gone ∙ gone_different; agreed = λ n e. absurd (none_some swept.collector.agreed n none_agreed e) })
       none_agreed (ap (λ (v : World). v.phase) has_found.world) few
 
-  pub has_collected : HasCollected w piece (run s piece).world
+  pub has_collected : HasCollected z w piece (run s piece).world
   has_collected = record {
     begun = ap first_begin h.are ∙ ap (λ (xs : List Entry). first_begin (xs ++ ends)) h.found ∙ ap (λ (xs : List Entry). first_begin (((xs ++ done ∷ []) ++ by Collector h.sweeps) ++ ends)) front_is;
     closed = start_may.1;
@@ -337,5 +341,5 @@ module _ (z : Sizes) (budget : ℕ) (header : Header) (old piece : List Entry) (
     found = ap (λ (v : World). all_different v.found) ended ∙ has_found.different;
     same = λ n. ap (λ (v : World). has v.found n) ended ∙ found_same n;
     scene = ap scene_of ended ∙ ap scene_of has_found.world ∙ kept_scene.0;
-    calm = subst IsCalm (sym (ended ∙ ap (λ (v : World). record v { removals = [] }) has_found.world)) (record { idle = refl; released = refl; cells = calm.cells; pointers = calm.pointers });
+    calm = subst (IsCalm z) (sym (ended ∙ ap (λ (v : World). record v { removals = [] }) has_found.world)) (record { idle = refl; released = refl; cells = calm.cells; pointers = calm.pointers; fits = calm.fits });
   }

@@ -24,4 +24,4 @@ OneText = (z : Sizes) (budget : ℕ) (header : Header) (lines : List Line) (piec
     → AllByRecursion (λ l. HasClass header l.cmd) lines
     → Legal z (entries_of pieces)
     → Plays budget header beginning no_bindings lines pieces last
-    → text beginning lines pieces ≡ outcome z header lines
+    → text header beginning no_bindings lines pieces ≡ outcome z header lines

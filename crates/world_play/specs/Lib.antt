@@ -1,13 +1,16 @@
 pub mod Types
 pub mod Header
 pub mod Text
+pub mod Spots
 pub mod Plays
+pub mod Reached
 pub mod Outcome
 pub mod Laws
 pub mod Streams
 pub mod Variables
 pub mod Turns
 pub mod Stages
+pub mod Cells
 pub mod Faults
 pub mod Ends
 pub mod Words

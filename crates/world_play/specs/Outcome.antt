@@ -1,11 +1,14 @@
--- What a whole script answers, as a function of its lines: without pieces, slices, notes or steps.
+-- What a whole script answers, as a function of its classes and lines: without pieces, slices, notes or steps.
 -- A script is whole where its collections are whole ones; as the language stands, each script is.
-use Rattle.std.specs.Prelude.{ℕ, ◌+◌, ◌-◌, ◌==◌, nat_lt, Bool, false, not, ◌&&◌, if◌then◌else◌, List, [], ◌∷◌, ◌++◌, length, filter, Option, Some, None}
+use Rattle.std.specs.Prelude.{ℕ, ◌+◌, ◌-◌, ◌==◌, nat_lt, Bool, false, not, ◌&&◌, if◌then◌else◌, List, [], ◌∷◌, ◌++◌, length, filter, Option, Some, None, Result, Ok, Err}
 use Rattle.std.specs.List.{list_any, count_by}
 use Rattle.world_model.specs.NameLists.{same_pass, has, members, set_at, set_name}
 use Rattle.world_model.specs.Sizes.{Sizes}
 use Rattle.class_schema.specs.Table.{kind_of}
+use Rattle.world_model.specs.Reach.{Graph}
+use Rattle.world_play.specs.Reached as reach
 use Rattle.world_play.specs.Header.{Header}
+use Rattle.world_play.specs.Spots.{Element, value_of, set_spot, get_spot, int_spot, told_object}
 use Rattle.world_play.specs.Types.{Name, Kind, Idle, Pass, Lane, Reply, Line, Who, Cmd}
 use Rattle.world_play.specs.Types.reply
 use Rattle.world_play.specs.Types.who
@@ -17,6 +20,9 @@ use Rattle.world_play.specs.Plays.{Bindings, no_bindings, names_after}
 pub record Scene : Type 0 where
   -- the kinds of the objects that each lane has made, in order
   pub kinds : ℕ → List Kind
+  -- what the reference cell of an object at a slot names, and the number in its plain cell at a slot
+  pub cell : Name → ℕ → Option Name
+  pub plain : Name → ℕ → ℕ
   -- the units of the objects that live, each the list of its members
   pub units : List (List Name)
   -- the root set
@@ -25,7 +31,7 @@ pub record Scene : Type 0 where
   pub opened : List Pass
 
 abbrev pub first_scene : Scene
-first_scene = record { kinds = λ lane. []; units = []; rooted = λ n. false; opened = [] }
+first_scene = record { kinds = λ lane. []; cell = λ n slot. None; plain = λ n slot. 0; units = []; rooted = λ n. false; opened = [] }
 
 -- ---- a lane makes an object
 
@@ -63,57 +69,91 @@ abbrev pub with_root : Scene → Option Name → Bool → Scene
 with_root c None on = c
 with_root c (Some n) on = record c { rooted = set_name c.rooted n on }
 
+-- ---- cells
+
+-- what is told of an element, or why there is none
+abbrev pub on_element : (Element → Reply) → Result Element Reply → Reply
+on_element told (Ok e) = told e
+on_element told (Err r) = r
+
+-- what is left where there is an element
+abbrev pub where_element : Scene → (Element → Scene) → Result Element Reply → Scene
+where_element c left (Ok e) = left e
+where_element c left (Err r) = c
+
+-- an object, or none, stands in a reference cell
+abbrev pub with_cell : Scene → Option Name → Element → Scene
+with_cell c to e = record c { cell = set_name c.cell e.at (set_at (c.cell e.at) e.slot to) }
+
+-- a number stands in a plain cell
+abbrev pub with_plain : Scene → ℕ → Element → Scene
+with_plain c value e = record c { plain = set_name c.plain e.at (set_at (c.plain e.at) e.slot value) }
+
 -- ---- a whole collection
 
--- a unit is reached where a member is rooted, as no object refers to another yet
-abbrev pub is_reached : Scene → List Name → Bool
-is_reached c u = list_any c.rooted u
+-- the units, the references and the root set
+abbrev pub graph_of : Scene → Graph
+graph_of c = record { units = c.units; cell = c.cell; rooted = c.rooted; strong = λ lane number. None }
+
+-- a unit is reached by a walk from a unit with a rooted member
+abbrev pub is_reached : Sizes → Scene → List Name → Bool
+is_reached z c u = reach.is_reached z.slots (list_any c.rooted) (graph_of c) u
 
 -- the objects that no root reaches
-abbrev pub unreached : Scene → List Name
-unreached c = members (filter (λ u. not (is_reached c u)) c.units)
+abbrev pub unreached : Sizes → Scene → List Name
+unreached z c = members (filter (λ u. not (is_reached z c u)) c.units)
 
 -- a collection waits for open frames; else it removes what no root reaches, and as each class is ready when it is asked, all of it is destroyed and released
 abbrev pub collection : List Pass → List Name → Reply
 collection (p ∷ opened) gone = reply.Pending (length (p ∷ opened))
 collection [] gone = reply.FullGc (length gone) 0 (in_name_order gone)
 
-abbrev pub full_reply : Scene → Reply
-full_reply c = collection c.opened (unreached c)
+abbrev pub full_reply : Sizes → Scene → Reply
+full_reply z c = collection c.opened (unreached z c)
 
-abbrev pub collected : Scene → Scene
-collected c = record c { units = filter (is_reached c) c.units; rooted = λ n. c.rooted n && not (has (unreached c) n) }
+abbrev pub collected : Sizes → Scene → Scene
+collected z c = record c { units = filter (is_reached z c) c.units; rooted = λ n. c.rooted n && not (has (unreached z c) n) }
 
-abbrev pub with_collection : Scene → Reply → Scene
-with_collection c (reply.FullGc removed left names) = collected c
-with_collection c r = c
+abbrev pub with_collection : Sizes → Scene → Reply → Scene
+with_collection z c (reply.FullGc removed left names) = collected z c
+with_collection z c r = c
 
 -- ---- whole scripts
 
 -- what a line answers
-abbrev pub reply_to : Sizes → Scene → Bindings → Who → Cmd → Reply
-reply_to z c names (who.Lane lane) cmd.Open = reply.Opened lane Idle
-reply_to z c names (who.Lane lane) cmd.Close = reply.Closed lane
-reply_to z c names (who.Lane lane) (cmd.New var class) = new_reply z c lane
-reply_to z c names (who.Lane lane) (cmd.Root var on) = root_reply c lane (names lane var)
-reply_to z c names (who.Lane lane) cmd.GcFull = full_reply c
-reply_to z c names who.Gc what = full_reply c
+abbrev pub reply_to : Sizes → Header → Scene → Bindings → Who → Cmd → Reply
+reply_to z header c names (who.Lane lane) cmd.Open = reply.Opened lane Idle
+reply_to z header c names (who.Lane lane) cmd.Close = reply.Closed lane
+reply_to z header c names (who.Lane lane) (cmd.New var class) = new_reply z c lane
+reply_to z header c names (who.Lane lane) (cmd.Root var on) = root_reply c lane (names lane var)
+reply_to z header c names (who.Lane lane) (cmd.Set spot to) = on_element (λ e. reply.Was lane (c.cell e.at e.slot)) (set_spot header c.kinds lane (names lane) spot to)
+reply_to z header c names (who.Lane lane) (cmd.Get var spot) = on_element (λ e. reply.Is lane (c.cell e.at e.slot)) (get_spot header c.kinds lane (names lane) spot)
+reply_to z header c names (who.Lane lane) (cmd.Put spot value) = on_element (λ e. reply.WasNumber lane (c.plain e.at e.slot)) (int_spot header c.kinds lane (names lane) spot)
+reply_to z header c names (who.Lane lane) (cmd.Take spot) = on_element (λ e. reply.IsNumber lane (c.plain e.at e.slot)) (int_spot header c.kinds lane (names lane) spot)
+reply_to z header c names (who.Lane lane) (cmd.Print var) = told_object c.kinds lane (names lane var)
+reply_to z header c names (who.Lane lane) cmd.GcFull = full_reply z c
+reply_to z header c names who.Gc what = full_reply z c
 
 -- what it leaves
-abbrev pub scene_after : Header → Scene → Bindings → Who → Cmd → Reply → Scene
-scene_after header c names (who.Lane lane) cmd.Open r = record c { opened = Lane lane ∷ c.opened }
-scene_after header c names (who.Lane lane) cmd.Close r = record c { opened = filter (λ q. not (same_pass (Lane lane) q)) c.opened }
-scene_after header c names (who.Lane lane) (cmd.New var class) r = with_object c lane (kind_of header.classes class) r
-scene_after header c names (who.Lane lane) (cmd.Root var on) r = with_root c (names lane var) on
-scene_after header c names (who.Lane lane) cmd.GcFull r = with_collection c r
-scene_after header c names who.Gc what r = with_collection c r
+abbrev pub scene_after : Sizes → Header → Scene → Bindings → Who → Cmd → Reply → Scene
+scene_after z header c names (who.Lane lane) cmd.Open r = record c { opened = Lane lane ∷ c.opened }
+scene_after z header c names (who.Lane lane) cmd.Close r = record c { opened = filter (λ q. not (same_pass (Lane lane) q)) c.opened }
+scene_after z header c names (who.Lane lane) (cmd.New var class) r = with_object c lane (kind_of header.classes class) r
+scene_after z header c names (who.Lane lane) (cmd.Root var on) r = with_root c (names lane var) on
+scene_after z header c names (who.Lane lane) (cmd.Set spot to) r = where_element c (with_cell c (value_of (names lane) to)) (set_spot header c.kinds lane (names lane) spot to)
+scene_after z header c names (who.Lane lane) (cmd.Get var spot) r = c
+scene_after z header c names (who.Lane lane) (cmd.Put spot value) r = where_element c (with_plain c value) (int_spot header c.kinds lane (names lane) spot)
+scene_after z header c names (who.Lane lane) (cmd.Take spot) r = c
+scene_after z header c names (who.Lane lane) (cmd.Print var) r = c
+scene_after z header c names (who.Lane lane) cmd.GcFull r = with_collection z c r
+scene_after z header c names who.Gc what r = with_collection z c r
 
 -- the text of lines in order, from a scene and these bindings on
 unfoldable pub outcome_from : Sizes → Header → Scene → Bindings → List Line → List ℕ
 outcome_from z header c names [] = []
 outcome_from z header c names (l ∷ ls) =
-    text_of (reply_to z c names l.who l.cmd)
-    ++ outcome_from z header (scene_after header c names l.who l.cmd (reply_to z c names l.who l.cmd)) (names_after names l.who l.cmd (reply_to z c names l.who l.cmd)) ls
+    let r = reply_to z header c names l.who l.cmd in
+    text_of header.classes.classes r ++ outcome_from z header (scene_after z header c names l.who l.cmd r) (names_after names l.who l.cmd r) ls
 
 -- the outcome of a whole script
 abbrev pub outcome : Sizes → Header → List Line → List ℕ

@@ -1,5 +1,5 @@
 -- What it is to play a script: its history is cut into one piece for each line.
-use Rattle.std.specs.Prelude.{◌≡◌, ◌≢◌, ℕ, ◌*◌, ◌-◌, ◌<◌, min, nat_lt, Bool, true, false, ◌&&◌, ◌⊎◌, List, [], ◌∷◌, ◌++◌, length, flat_map, slice_index, Option, Some, None}
+use Rattle.std.specs.Prelude.{◌≡◌, ◌≢◌, ℕ, ◌*◌, ◌-◌, ◌<◌, min, nat_lt, Bool, true, false, ◌&&◌, ◌⊎◌, List, [], ◌∷◌, ◌++◌, length, flat_map, slice_index, Option, Some, None, Result, Ok, Err}
 use Rattle.world_play.specs.Types.{Name, ClassId, Ready, Phase, Kind, CreateErr, Begin, Swept, Pass, Lane, Marker, Collector, Act, Entry}
 use Rattle.world_play.specs.Types.act
 use Rattle.world_play.specs.Types.begin
@@ -21,6 +21,7 @@ use Rattle.class_schema.specs.Class.{Schema}
 use Rattle.class_schema.specs.Table.{kind_of}
 use Rattle.level_script.specs.Frames.{fits_lane, fits_gc}
 use Rattle.world_play.specs.Header.{Header}
+use Rattle.world_play.specs.Spots.{Element, value_of, set_spot, get_spot, int_spot, silent_reply}
 use Rattle.world_play.specs.Types.{Reply, Line, Who, Cmd}
 use Rattle.world_play.specs.Types.reply
 use Rattle.world_play.specs.Types.who
@@ -58,11 +59,36 @@ abbrev pub SetsObject : State → ℕ → Option Name → Bool → List Entry �
 SetsObject s lane None on piece = piece ≡ []
 SetsObject s lane (Some n) on piece = (was : Bool) × OneCall s (Lane lane) (act.Root n on was) piece
 
+-- a reference is stored in an element, or nothing is called
+abbrev pub StoresIn : State → ℕ → Option Name → Result Element Reply → List Entry → Type 0
+StoresIn s lane to (Err r) piece = piece ≡ []
+StoresIn s lane to (Ok e) piece = (old : Option Name) × OneCall s (Lane lane) (act.WriteRef e.at e.slot to old) piece
+
+-- the reference in an element is read
+abbrev pub ReadsFrom : State → ℕ → Result Element Reply → List Entry → Type 0
+ReadsFrom s lane (Err r) piece = piece ≡ []
+ReadsFrom s lane (Ok e) piece = (got : Option Name) × OneCall s (Lane lane) (act.ReadRef e.at e.slot got) piece
+
+-- a number is stored in an element
+abbrev pub PutsIn : State → ℕ → ℕ → Result Element Reply → List Entry → Type 0
+PutsIn s lane value (Err r) piece = piece ≡ []
+PutsIn s lane value (Ok e) piece = (old : ℕ) × OneCall s (Lane lane) (act.WritePlain e.at e.slot value old) piece
+
+-- the number in an element is read
+abbrev pub TakesFrom : State → ℕ → Result Element Reply → List Entry → Type 0
+TakesFrom s lane (Err r) piece = piece ≡ []
+TakesFrom s lane (Ok e) piece = (got : ℕ) × OneCall s (Lane lane) (act.ReadPlain e.at e.slot got) piece
+
 abbrev pub LanePiece : Header → State → Bindings → ℕ → Cmd → List Entry → Type 0
 LanePiece header s names lane cmd.Open piece = (phase : Phase) × OneCall s (Lane lane) (act.FrameOpen phase) piece
 LanePiece header s names lane cmd.Close piece = OneCall s (Lane lane) act.FrameClose piece
 LanePiece header s names lane (cmd.New var class) piece = MakesObject s lane (kind_of header.classes class) piece
 LanePiece header s names lane (cmd.Root var on) piece = SetsObject s lane (names lane var) on piece
+LanePiece header s names lane (cmd.Set spot to) piece = StoresIn s lane (value_of (names lane) to) (set_spot header s.world.kinds lane (names lane) spot to) piece
+LanePiece header s names lane (cmd.Get var spot) piece = ReadsFrom s lane (get_spot header s.world.kinds lane (names lane) spot) piece
+LanePiece header s names lane (cmd.Put spot value) piece = PutsIn s lane value (int_spot header s.world.kinds lane (names lane) spot) piece
+LanePiece header s names lane (cmd.Take spot) piece = TakesFrom s lane (int_spot header s.world.kinds lane (names lane) spot) piece
+LanePiece header s names lane (cmd.Print var) piece = piece ≡ []
 LanePiece header s names lane cmd.GcFull piece = ⊥
 
 -- sweeps in a row that stopped for their budget
@@ -136,15 +162,19 @@ closing [] = None
 closing (e ∷ []) = Some e.act
 closing (e ∷ next ∷ es) = closing (next ∷ es)
 
--- the reply to a lane by the act that closes the piece; a piece without an entry is that of a variable that stands for no object
-abbrev pub lane_reply : ℕ → Option Act → Reply
-lane_reply lane (Some (act.FrameOpen phase)) = reply.Opened lane phase
-lane_reply lane (Some act.FrameClose) = reply.Closed lane
-lane_reply lane (Some (act.Make kinds count)) = reply.New lane (record { lane = lane; count = count })
-lane_reply lane (Some (act.Full asked free)) = reply.Full lane free
-lane_reply lane (Some (act.NamesSpent asked left)) = reply.NamesSpent lane left
-lane_reply lane (Some (act.Root at on was)) = reply.WasRoot lane was
-lane_reply lane _ = reply.NoObject lane
+-- the reply to a lane by the act that closes the piece, or this one where there is no entry
+abbrev pub lane_reply : ℕ → Reply → Option Act → Reply
+lane_reply lane silent (Some (act.FrameOpen phase)) = reply.Opened lane phase
+lane_reply lane silent (Some act.FrameClose) = reply.Closed lane
+lane_reply lane silent (Some (act.Make kinds count)) = reply.New lane (record { lane = lane; count = count })
+lane_reply lane silent (Some (act.Full asked free)) = reply.Full lane free
+lane_reply lane silent (Some (act.NamesSpent asked left)) = reply.NamesSpent lane left
+lane_reply lane silent (Some (act.Root at on was)) = reply.WasRoot lane was
+lane_reply lane silent (Some (act.WriteRef at slot to old)) = reply.Was lane old
+lane_reply lane silent (Some (act.ReadRef at slot got)) = reply.Is lane got
+lane_reply lane silent (Some (act.WritePlain at slot value old)) = reply.WasNumber lane old
+lane_reply lane silent (Some (act.ReadPlain at slot got)) = reply.IsNumber lane got
+lane_reply lane silent _ = silent
 
 -- what the collector answered when it was asked to begin: its first act says so
 abbrev pub begin_answer : Act → Begin
@@ -162,38 +192,42 @@ full_reply w (begin.Running phase) = reply.Running phase
 full_reply w (begin.Purging left) = reply.Purging left
 full_reply w (begin.Frames n) = reply.Pending n
 
--- the reply in the piece of a line
-abbrev pub reply_in : State → Who → List Entry → Reply
-reply_in s (who.Lane lane) piece = lane_reply lane (closing piece)
-reply_in s who.Gc piece = full_reply (run s piece).world (first_begin piece)
+-- the reply in the piece of a line; where a lane's line makes no entry, it comes from the variables and the kinds
+abbrev pub reply_in : Header → State → Bindings → Who → Cmd → List Entry → Reply
+reply_in header s names (who.Lane lane) what piece = lane_reply lane (silent_reply header s.world.kinds lane (names lane) what) (closing piece)
+reply_in header s names who.Gc what piece = full_reply (run s piece).world (first_begin piece)
 
 -- the object that a reply gives
 abbrev pub object_of : Reply → Option Name
 object_of (reply.New lane n) = Some n
+object_of (reply.Is lane got) = got
 object_of _ = None
 
 -- the bindings after a line with this reply
 abbrev pub names_after : Bindings → Who → Cmd → Reply → Bindings
 names_after names (who.Lane lane) cmd.Close r = ended names lane
 names_after names (who.Lane lane) (cmd.New var class) r = bound names lane var (object_of r)
+names_after names (who.Lane lane) (cmd.Get var spot) r = bound names lane var (object_of r)
 names_after names by what r = names
 
 -- ---- whole scripts
 
 -- from a state and these bindings the line has this piece and this reply, and leaves those bindings
 abbrev pub TurnBy : ℕ → Header → State → Bindings → Who → Cmd → List Entry → Reply → Bindings → Type 0
-TurnBy budget header s names by what piece r new = IsPiece budget header s names by what piece × (r ≡ reply_in s by piece) × (new ≡ names_after names by what r)
+TurnBy budget header s names by what piece r new = IsPiece budget header s names by what piece × (r ≡ reply_in header s names by what piece) × (new ≡ names_after names by what r)
 
 -- these are the pieces of the lines in order, from a state and these bindings to those
 unfoldable pub Plays : ℕ → Header → State → Bindings → List Line → List (List Entry) → Bindings → Type 0
 Plays budget header s names [] [] new = new ≡ names
-Plays budget header s names (l ∷ ls) (p ∷ ps) new = IsPiece budget header s names l.who l.cmd p × Plays budget header (run s p) (names_after names l.who l.cmd (reply_in s l.who p)) ls ps new
+Plays budget header s names (l ∷ ls) (p ∷ ps) new = IsPiece budget header s names l.who l.cmd p × Plays budget header (run s p) (names_after names l.who l.cmd (reply_in header s names l.who l.cmd p)) ls ps new
 Plays budget header s names _ _ new = ⊥
 
 -- the text of lines and their pieces: line by line that of the reply in the piece
-unfoldable pub text : State → List Line → List (List Entry) → List ℕ
-text s (l ∷ ls) (p ∷ ps) = text_of (reply_in s l.who p) ++ text (run s p) ls ps
-text s _ _ = []
+unfoldable pub text : Header → State → Bindings → List Line → List (List Entry) → List ℕ
+text header s names (l ∷ ls) (p ∷ ps) =
+    text_of header.classes.classes (reply_in header s names l.who l.cmd p)
+    ++ text header (run s p) (names_after names l.who l.cmd (reply_in header s names l.who l.cmd p)) ls ps
+text header s names _ _ = []
 
 -- the entries of pieces in order
 abbrev pub entries_of : List (List Entry) → List Entry
@@ -232,9 +266,9 @@ frames_by opened _ _ = opened
 abbrev pub frames_after : (ℕ → Bool) → Line → ℕ → Bool
 frames_after opened l = frames_by opened l.who l.cmd
 
--- a line has its lane's frame as it needs it, and numbers of lanes, variables and classes that are there
+-- a line has its lane's frame as it needs it, and numbers of lanes, variables, classes and fields that are there
 abbrev pub fits_by : ℕ → List ℕ → Header → (ℕ → Bool) → Who → Cmd → Bool
-fits_by lanes vars header opened (who.Lane lane) what = nat_lt lane lanes && fits_lane (slice_index vars lane) (length header.classes.classes) (opened lane) what
+fits_by lanes vars header opened (who.Lane lane) what = nat_lt lane lanes && fits_lane (slice_index vars lane) (length header.classes.classes) (length header.fields) (opened lane) what
 fits_by lanes vars header opened who.Gc what = fits_gc what
 
 abbrev pub fits : ℕ → List ℕ → Header → (ℕ → Bool) → Line → Bool

@@ -2,6 +2,7 @@
 use Rattle.std.specs.Prelude.{◌≡◌, ◌≤◌, ◌⊎◌, ◌*◌, ℕ, List, [], ◌∷◌, ◌++◌, flat_map, length, IsTrue}
 use Rattle.world_model.specs.Sizes.{Sizes, item_count}
 use Rattle.world_model.specs.State.{grey_units}
+use Rattle.world_model.specs.Next.{run}
 use Rattle.world_model.specs.Histories.{state_of, after, Legal}
 use Rattle.world_model.specs.Calls.{by, SlicesUntilIdle}
 use Rattle.world_model.specs.Engines.{Holdings, KeepsHeld, no_slice}
@@ -10,9 +11,8 @@ use Rattle.world_play.specs.Types.{Name, Idle, Marking, Gathering, Marker, Colle
 use Rattle.world_play.specs.Types.act
 use Rattle.world_play.specs.Types.commit
 use Rattle.world_play.specs.Types.cmd
-use Rattle.world_play.specs.Types.who
 use Rattle.world_play.specs.Types.begin
-use Rattle.world_play.specs.Plays.{SlicesSpent, SweepsMore, SweepsAll, PurgesAll, CollectorPiece, full_reply, reply_in}
+use Rattle.world_play.specs.Plays.{SlicesSpent, SweepsMore, SweepsAll, PurgesAll, CollectorPiece, full_reply, first_begin}
 
 -- a collection marks, and nothing is open
 pub record IsMarking (z : Sizes) (history : List Entry) : Type 0 where
@@ -116,7 +116,8 @@ pub record Collects (z : Sizes) (budget : ℕ) (header : Header) (old new : List
   pub piece : List Entry
   pub grown : new ≡ old ++ piece
   pub calls : CollectorPiece budget header (state_of old) cmd.GcFull piece
-  pub answer : r ≡ reply_in (state_of old) who.Gc piece
+  pub answer : r ≡ full_reply (run (state_of old) piece).world (first_begin piece)
+  pub kinds : (after new).kinds ≡ (after old).kinds
   pub legal : Legal z new
   pub alone : IsTrue (no_slice (after new))
   pub opened : (after new).opened ≡ (after old).opened

@@ -1,14 +1,16 @@
 -- What the player is asked for, and what it leaves.
-use Rattle.std.specs.Prelude.{◌≡◌, ℕ, ◌+◌, ◌^◌, ◌<◌, ◌⊎◌, Bool, true, List, [], ◌∷◌, ◌++◌, length, Option, IsTrue}
+use Rattle.std.specs.Prelude.{◌≡◌, ℕ, ◌+◌, ◌^◌, ◌<◌, ◌⊎◌, Bool, true, List, [], ◌∷◌, ◌++◌, length, Option, Some, IsTrue}
 use Rattle.world_model.specs.Sizes.{Sizes}
-use Rattle.world_model.specs.World.{World, is_open}
+use Rattle.world_model.specs.World.{World, is_open, kind_of}
+use Rattle.class_schema.specs.Table as table
+use Rattle.class_schema.specs.Lawful.{IsSchema}
 use Rattle.world_model.specs.State.{State, beginning}
 use Rattle.world_model.specs.Histories.{state_of, after, Legal}
 use Rattle.world_model.specs.Engines.{Holdings, no_slice}
 use Rattle.world_play.specs.Header.{Header}
-use Rattle.world_play.specs.Types.{Entry, Line, Who, Cmd, Reply, Lane}
+use Rattle.world_play.specs.Types.{Name, Kind, Entry, Line, Who, Cmd, Reply, Lane}
 use Rattle.world_play.specs.Plays.{Bindings, no_bindings, IsPiece, IsPart, reply_in, TurnBy, Plays, text, entries_of, fits_by, frames_by}
-use Rattle.world_play.specs.Text.{text_of}
+use Rattle.world_play.specs.Text.{text_of, HasText}
 use Rattle.world_play.specs.Streams.{Gained, IsStart}
 use Rattle.world_play.specs.Variables.{shown, numbers_of, AreKept}
 use Rattle.world_play.specs.declared.variables.LaneVariables.{LaneVariables}
@@ -16,6 +18,11 @@ use Rattle.world_play.specs.declared.variables.LaneVariables.{LaneVariables}
 -- the lanes whose frames are open
 abbrev pub frames_of : World → ℕ → Bool
 frames_of w lane = is_open w (Lane lane)
+
+-- each object that was made is of a kind of the table
+pub record AreMade (header : Header) (w : World) : Type 0 where
+  pub class : (n : Name) (k : Kind) → kind_of w n ≡ Some k → k.class.0 < length header.classes.classes
+  pub kind : (n : Name) (k : Kind) → kind_of w n ≡ Some k → k ≡ table.kind_of header.classes k.class
 
 -- A line can be played, behind so many others: its lane, its variables and its class are there, and its lane's frame is as it needs it.
 pub record IsReady (z : Sizes) (history : List Entry) (holds : Holdings) (lanes : List LaneVariables) (played : ℕ) (header : Header) (by : Who) (what : Cmd) : Type 0 where
@@ -26,6 +33,8 @@ pub record IsReady (z : Sizes) (history : List Entry) (holds : Holdings) (lanes 
   pub kept : AreKept holds lanes played
   pub room : played + 1 < 2 ^ 64
   pub slots : header.classes.slots ≡ z.slots
+  pub schema : IsSchema header.classes
+  pub made : AreMade header (after history)
 
 -- A line was played.
 pub record Turned (z : Sizes) (budget : ℕ) (header : Header) (old new : List Entry) (holds : Holdings) (before now : List LaneVariables) (played : ℕ) (by : Who) (what : Cmd) (r : Reply) : Type 0 where
@@ -35,6 +44,8 @@ pub record Turned (z : Sizes) (budget : ℕ) (header : Header) (old new : List E
   pub legal : Legal z new
   pub alone : IsTrue (no_slice (after new))
   pub kept : AreKept holds now (played + 1)
+  pub made : AreMade header (after new)
+  pub told : HasText header.classes.classes r
 
 -- A line was not answered: some of its calls were made, or all of them.
 pub record Broken (z : Sizes) (budget : ℕ) (header : Header) (old new : List Entry) (names : Bindings) (by : Who) (what : Cmd) : Type 0 where
@@ -47,12 +58,12 @@ pub record Broken (z : Sizes) (budget : ℕ) (header : Header) (old new : List E
 pub record Answered (z : Sizes) (budget : ℕ) (header : Header) (old new : List Entry) (holds : Holdings) (before now : List LaneVariables) (played : ℕ) (l : Line) (had has : Option (List ℕ)) : Type 0 where
   pub reply : Reply
   pub turned : Turned z budget header old new holds before now played l.who l.cmd reply
-  pub put : Gained had has (text_of reply)
+  pub put : Gained had has (text_of header.classes.classes reply)
 
 -- the lines end here; or of the next line some calls were made and nothing was put, or all calls were made and a beginning of its text was put
 abbrev pub Stops : ℕ → Header → State → Bindings → List Line → List Entry → List ℕ → Type 0
 Stops budget header s names [] part some = (part ≡ []) × (some ≡ [])
-Stops budget header s names (l ∷ ls) part some = (IsPart budget s l.who l.cmd part × (some ≡ [])) ⊎ (IsPiece budget header s names l.who l.cmd part × IsStart some (text_of (reply_in s l.who part)))
+Stops budget header s names (l ∷ ls) part some = (IsPart budget s l.who l.cmd part × (some ≡ [])) ⊎ (IsPiece budget header s names l.who l.cmd part × IsStart some (text_of header.classes.classes (reply_in header s names l.who l.cmd part)))
 
 -- A line was not played, or its reply was not put as a whole.
 pub record Unanswered (z : Sizes) (budget : ℕ) (header : Header) (old new : List Entry) (names : Bindings) (l : Line) (had has : Option (List ℕ)) : Type 0 where
@@ -70,7 +81,7 @@ pub record Played (z : Sizes) (budget : ℕ) (header : Header) (lines : List Lin
   pub legal : Legal z history
   pub cut : history ≡ entries_of pieces
   pub plays : Plays budget header beginning no_bindings lines pieces last
-  pub put : Gained had has (text beginning lines pieces)
+  pub put : Gained had has (text header beginning no_bindings lines pieces)
 
 -- The first lines were played, and so many replies put as a whole; of the next line perhaps some calls were made, or all of them and a beginning of its text was put.
 pub record Stopped (z : Sizes) (budget : ℕ) (header : Header) (lines : List Line) (history : List Entry) (had has : Option (List ℕ)) (count : ℕ) : Type 0 where
@@ -85,5 +96,5 @@ pub record Stopped (z : Sizes) (budget : ℕ) (header : Header) (lines : List Li
   pub cut : history ≡ entries_of pieces ++ part
   pub plays : Plays budget header beginning no_bindings whole pieces names
   pub stops : Stops budget header (state_of (entries_of pieces)) names rest part some
-  pub put : Gained had has (text beginning whole pieces ++ some)
+  pub put : Gained had has (text header beginning no_bindings whole pieces ++ some)
   pub number : count ≡ length whole

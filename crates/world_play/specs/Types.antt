@@ -36,3 +36,7 @@ pub use Rattle.level_script.specs.declared.script.Who.{Who}
 pub use Rattle.level_script.specs.declared.script.Who.TheVariants as who
 pub use Rattle.level_script.specs.declared.script.Cmd.{Cmd}
 pub use Rattle.level_script.specs.declared.script.Cmd.TheVariants as cmd
+pub use Rattle.level_script.specs.declared.script.Spot.{Spot}
+pub use Rattle.class_schema.specs.declared.field.Field.{Field}
+pub use Rattle.class_schema.specs.declared.field.FieldKind.{FieldKind}
+pub use Rattle.class_schema.specs.declared.field.FieldKind.TheVariants as field

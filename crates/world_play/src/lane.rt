@@ -1,5 +1,6 @@
 //! The lines of lanes.
 ghost use Rattle.std.specs.Prelude.{◌≡◌, ℕ, length, Some};
+ghost use Rattle.world_play.specs.Types.{Reply};
 ghost use Rattle.world_play.specs.Types.who;
 ghost use Rattle.world_play.specs.Types.cmd;
 ghost use Rattle.world_model.specs.Engines.{act_of_refusal};
@@ -54,7 +55,7 @@ pub(crate) fn close<S: Shape, E: Engine<S>>(
 }
 
 fn refusal(lane: u32, why: CreateErr) -> Reply
-    ensures { result ≡ lane_reply lane (Some (act_of_refusal 1 why)) }
+    ensures { (silent : Reply) → result ≡ lane_reply lane silent (Some (act_of_refusal 1 why)) }
 {
     match why {
         CreateErr::Full { free } => Reply::Full(lane, free),

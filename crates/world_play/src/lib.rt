@@ -8,6 +8,9 @@
 //! The layer above calls `worldrun`, and writes `fault_text` and `exit_code` of its status.
 #![tactic(auto)]
 
+#[cfg(test)]
+mod cell_tests;
+mod cells;
 mod collection;
 mod header;
 mod hooks;

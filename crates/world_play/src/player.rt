@@ -4,6 +4,7 @@ ghost use Rattle.level_script.specs.Frames.{are_framed};
 ghost use Rattle.world_play.specs.Streams.{PutCounts};
 ghost use Rattle.world_play.specs.Turns.{IsReady, Answered, Unanswered, Played, Stopped};
 ghost use Rattle.world_play.specs.Variables.{shown};
+ghost use Rattle.class_schema.specs.Lawful.{IsSchema};
 
 use crate::header::Header;
 use crate::stream::put_all;
@@ -35,7 +36,7 @@ fn play_line<S: Shape, E: Engine<S>, K: Sink>(
     let Ok(reply) = turn::<S, E>(alloc, engine, header, lanes, played, budget, line) else {
         return Err(PutErr::Memory);
     };
-    let Ok(text) = text::line(alloc, &reply) else {
+    let Ok(text) = text::line(alloc, header.classes, &reply) else {
         return Err(PutErr::Memory);
     };
     put_all(out, text.as_bytes())
@@ -55,8 +56,9 @@ pub fn play<S: Shape, E: Engine<S>, K: Sink>(
 ) -> Result<(), PutErr>
     requires some { 1 ≤ budget }
     requires lanes { length counts.now ≡ S.sizes.lanes }
-    requires framed { are_framed counts.now (length header.now.classes.classes) (replicate S.sizes.lanes false) lines.now ≡ true }
+    requires framed { are_framed counts.now (length header.now.classes.classes) (length header.now.fields) (replicate S.sizes.lanes false) lines.now ≡ true }
     requires slots { header.now.classes.slots ≡ S.sizes.slots }
+    requires schema { IsSchema header.now.classes }
     requires start { E.history engine.old ≡ [] }
     requires none { written.old ≡ 0 }
     ensures faults { PutCounts (K.faults out.old) (K.faults out.new) result }

@@ -1,6 +1,6 @@
 //! What each line of a script answers.
 
-use world_model::{Name, Names, Phase};
+use world_model::{ClassId, Name, Names, Phase};
 
 /// The reply to a line. A lane's reply begins with its lane.
 #[derive(Clone, Debug, Drop, PartialEq, Eq)]
@@ -17,8 +17,26 @@ pub enum Reply {
     NamesSpent(u32, u64),
     /// Whether the object was in the root set.
     WasRoot(u32, bool),
+    /// What the reference cell referred to before.
+    Was(u32, Option<Name>),
+    /// The number that stood in the cell before.
+    WasNumber(u32, u64),
+    /// What the reference cell refers to.
+    Is(u32, Option<Name>),
+    /// The number in the cell.
+    IsNumber(u32, u64),
+    /// An object and its class.
+    Object(u32, Name, ClassId),
     /// The variable stands for no object.
     NoObject(u32),
+    /// The object has no field of this name.
+    NoField(u32),
+    /// The field is of another kind than the command is for.
+    WrongKind(u32),
+    /// The field has no such element.
+    NoElement(u32),
+    /// The object is of no class that the field may refer to.
+    WrongClass(u32),
     /// No collection began, since one runs; its phase.
     Running(Phase),
     /// No collection began, since so many objects of the last one are not released.

@@ -129,6 +129,7 @@ fn perform<S: Shape, K: Sink>(
         classes: &script.classes,
         fields: &script.fields,
     };
+    script.classes.lawful();
     let mut lines = 0;
     let status = match play::<S, PlainHeap<S>, K>(
         alloc,

@@ -44,7 +44,7 @@ fn run<R: Threads + Sync>(
 }
 
 // Whether `play` of this input ends so, and writes this text of so many lines.
-fn plays<R: Threads + Sync>(
+pub(crate) fn plays<R: Threads + Sync>(
     rt: &R,
     alloc: Global,
     input: &str,

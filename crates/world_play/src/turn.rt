@@ -4,6 +4,7 @@ ghost use Rattle.world_play.specs.Types.who;
 ghost use Rattle.world_play.specs.Turns.{IsReady, Turned, Broken};
 ghost use Rattle.world_play.specs.Variables.{shown};
 
+use crate::cells::{get, print, put, set, take};
 use crate::collection::full;
 use crate::header::Header;
 use crate::lane::{close, make, open, root};
@@ -30,6 +31,11 @@ fn lane_turn<S: Shape, E: Engine<S>>(
         Cmd::Close => close::<S, E>(engine, header, lanes, played, lane),
         Cmd::New { var, class } => make::<S, E>(engine, header, lanes, played, lane, var, class),
         Cmd::Root { var, on } => root::<S, E>(engine, header, lanes, played, lane, var, on),
+        Cmd::Set { spot, to } => set::<S, E>(engine, header, lanes, played, lane, spot, to),
+        Cmd::Get { var, spot } => get::<S, E>(engine, header, lanes, played, lane, var, spot),
+        Cmd::Put { spot, value } => put::<S, E>(engine, header, lanes, played, lane, spot, value),
+        Cmd::Take { spot } => take::<S, E>(engine, header, lanes, played, lane, spot),
+        Cmd::Print { var } => print::<S, E>(engine, header, lanes, played, lane, var),
         Cmd::GcFull => Reply::Closed(lane),
     }
 }

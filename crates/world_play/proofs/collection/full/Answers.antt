@@ -1,5 +1,6 @@
 use Rattle.std.proofs.Common.{refl, sym, ap, ◌∙◌, inl}
-use Rattle.world_play.proofs.Collecting.{starts_marking, collects_all, collects_some, refused_opened, refused_first, each_ok, each_err}
+use Rattle.world_play.proofs.Collecting.{starts_marking, collected_kinds, collects_all, collects_some, refused_opened, refused_first, each_ok, each_err}
+use Rattle.world_play.proofs.KeptKinds.{by_no_lane}
 use Rattle.world_play.specs.Plays.{full_reply}
 use Rattle.world_model.specs.Next.{run}
 use Rattle.world_model.specs.Histories.{state_of}
@@ -31,6 +32,7 @@ returns-in_default g c =
         grown = h.grown;
         calls = inl (c.begin.result, c.in_default.not-Started, (h.acts, h.call, refl));
         answer = c.refusal.ensures world ∙ ap (full_reply world) (sym first);
+        kinds = collected_kinds _ _ _ _ h.grown h.legal (by_no_lane Collector h.acts tt);
         legal = h.legal;
         alone = slices_closed _ _ _ _ _ h c.requires.alone;
         opened = refused_opened _ _ _ c.begin.result c.in_default.not-Started h;

@@ -27,6 +27,7 @@ loop-played-init g c = rw (c.as_mut_slice-lanes.ensures.value, c.requires.start)
   alone = refl;
   kept = fresh_kept _ _ _ c.in-Ok.ensures;
   faults = refl;
+  made = record { class = λ n k e. absurd cc; kind = λ n k e. absurd cc };
   written = c.requires.none;
 })
 
@@ -42,6 +43,8 @@ play_line-requires-clause-ready g c =
       kept = i.kept;
       room = omega arith;
       slots = c.requires.slots;
+      schema = c.requires.schema;
+      made = i.made;
     }
 
 pub loop-played-preserved : goal.loop-played-preserved
@@ -58,14 +61,15 @@ loop-played-preserved g c =
       pieces = i.pieces ++ t.turn.0 ∷ [];
       plays = plays_more c.args.budget c.args.header.now beginning no_bindings _ _ before line i.pieces t.turn.0 a.reply i.plays turn;
       cut = t.turn.1 ∙ ap (λ (h : List Entry). h ++ t.turn.0) i.cut ∙ sym (entries_more i.pieces t.turn.0);
-      put = subst (Gained (g.K.Sink.held c.args.out.now) (g.K.Sink.held c.play_line.new.out)) (ap (λ (r : Reply). text beginning before i.pieces ++ text_of r) turn.1 ∙ sym (text_more c.args.budget c.args.header.now beginning no_bindings _ before line i.pieces t.turn.0 i.plays))
-          (gained_both _ _ _ (text beginning before i.pieces) (text_of a.reply) i.put a.put);
+      put = subst (Gained (g.K.Sink.held c.args.out.now) (g.K.Sink.held c.play_line.new.out)) (ap (λ (r : Reply). text c.args.header.now beginning no_bindings before i.pieces ++ text_of c.args.header.now.classes.classes r) turn.1 ∙ sym (text_more c.args.budget c.args.header.now beginning no_bindings _ before line i.pieces t.turn.0 i.plays))
+          (gained_both _ _ _ (text c.args.header.now beginning no_bindings before i.pieces) (text_of c.args.header.now.classes.classes a.reply) i.put a.put);
       fit = rw t.frames fit.1;
       numbers = t.numbers ∙ i.numbers;
       legal = t.legal;
       alone = t.alone;
       kept = t.kept;
       faults = c.in_ok-play_line.ensures.faults ∙ i.faults;
+      made = t.made;
       written = ap (λ (n : ℕ). n + 1) i.written;
     })
 

@@ -6,7 +6,7 @@ use Rattle.world_play.specs.Types.{Entry}
 use Rattle.world_play.specs.Plays.{no_bindings, Plays, text, entries_of, are_fit}
 use Rattle.world_play.specs.Streams.{Gained}
 use Rattle.world_play.specs.Variables.{numbers_of, shown, AreKept}
-use Rattle.world_play.specs.Turns.{frames_of}
+use Rattle.world_play.specs.Turns.{frames_of, AreMade}
 use Rattle.world_play.proofs.player.play.Given as goal
 
 abbrev pub invariant-loop-played : goal.invariant-loop-played
@@ -16,12 +16,13 @@ invariant-loop-played g l =
       pieces : List (List Entry);
       plays : Plays l.budget l.header beginning no_bindings (take l.played l.lines) pieces (shown l.lanes);
       cut : history l.engine ≡ entries_of pieces;
-      put : Gained (g.K.Sink.held l.fn.out) (g.K.Sink.held l.out) (text beginning (take l.played l.lines) pieces);
+      put : Gained (g.K.Sink.held l.fn.out) (g.K.Sink.held l.out) (text l.header beginning no_bindings (take l.played l.lines) pieces);
       fit : are_fit g.S.Shape.sizes.lanes l.counts l.header (frames_of (after (history l.engine))) (drop l.played l.lines) ≡ true;
       numbers : numbers_of l.lanes ≡ l.counts;
       legal : Legal g.S.Shape.sizes (history l.engine);
       alone : IsTrue (no_slice (after (history l.engine)));
       kept : AreKept (g.E.Engine.holds l.engine) l.lanes l.played;
       faults : g.K.Sink.faults l.out ≡ g.K.Sink.faults l.fn.out;
+      made : AreMade l.header (after (history l.engine));
       written : l.written ≡ l.played;
     }

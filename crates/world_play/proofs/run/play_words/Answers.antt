@@ -5,6 +5,7 @@ use Rattle.world_play.specs.Ends.{IsScript}
 use Rattle.world_play.specs.declared.status.Status.{Status}
 use Rattle.world_play.specs.declared.status.Status.TheVariants as status
 use Rattle.world_play.proofs.Ending.{headline_of, outcome_of_run, early_of, counts_of, completes_unread, says_script_of}
+use Rattle.world_play.proofs.Lines.{plain_class}
 use Rattle.world_play.proofs.Telling.{one_text_holds}
 use Rattle.world_play.proofs.run.play_words.Goals as goal
 
@@ -18,7 +19,7 @@ returns-in-Ok-clause-outcome g c =
     (subst (λ (limits : Limits). IsScript limits (g.S.Source.left c.args.script.now) c.in-Ok.script) c.limits_in.ensures.limits c.in-Ok.ensures.read) c.perform_in.ensures.run c.perform_in.ensures.played
 
 pub returns-in-Ok-clause-lines : goal.returns-in-Ok-clause-lines
-returns-in-Ok-clause-lines g c = counts_of _ _ c.perform_in.result.status c.in-Ok.script _ _ _ _ c.perform_in.ensures.played
+returns-in-Ok-clause-lines g c = counts_of _ _ c.perform_in.result.status c.in-Ok.script _ _ _ _ (λ class. plain_class c.in-Ok.script.classes.classes class.0 c.in-Ok.ensures.playable.named) c.perform_in.ensures.played
 
 pub returns-in-Err-clause-complete : goal.returns-in-Err-clause-complete
 returns-in-Err-clause-complete g c told quiet put_quiet =

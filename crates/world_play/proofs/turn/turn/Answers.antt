@@ -8,6 +8,6 @@ returns-in-Lane g c = rw c.in-Lane.is (record { turned = c.lane_turn.ensures c.a
 
 pub returns-in-Gc : goal.returns-in-Gc
 returns-in-Gc g c = rw c.in-Gc.is (record {
-  turned = each_ok _ _ c.full.result (λ r h. gc_turned _ _ _ _ _ _ _ c.args.lanes.now c.args.played c.args.line.cmd r (rw c.in-Gc.is at c.requires.ready.fit) c.requires.ready.kept h) c.full.ensures.all;
+  turned = each_ok _ _ c.full.result (λ r h. gc_turned _ _ _ _ _ _ _ c.args.lanes.now c.args.played c.args.line.cmd r (rw c.in-Gc.is at c.requires.ready.fit) c.requires.ready.kept c.requires.ready.made h) c.full.ensures.all;
   broken = each_err _ _ c.full.result (λ h. gc_broken _ _ _ _ _ _ c.args.line.cmd (rw c.in-Gc.is at c.requires.ready.fit) (h (shown c.args.lanes.now))) c.full.ensures.some;
 })

@@ -1,0 +1,348 @@
+//! The lines of lanes that name an element of a field, and the line that tells an object.
+ghost use Rattle.std.specs.Prelude.{◌≡◌, ◌+◌, ◌^◌, ◌<◌, ◌≤◌, ◌-◌, ℕ, true, false, IsTrue, length, option_map, option_and_then, Some, IfSome, IfOk};
+ghost use Rattle.class_schema.specs.Ancestry.{is_a};
+ghost use Rattle.level_script.specs.Frames.{fits_target};
+ghost use Rattle.world_play.specs.Variables.{lane_ref};
+ghost use Rattle.class_schema.specs.Layout.{is_ref};
+ghost use Rattle.world_model.specs.World.{refs_of, plain_of};
+ghost use Rattle.world_model.specs.Histories.{after};
+ghost use Rattle.world_model.specs.Engines.{IsInFrame, KeepsHeld};
+ghost use Rattle.world_play.specs.Types.who;
+ghost use Rattle.world_play.specs.Types.cmd;
+ghost use Rattle.world_play.specs.Spots.{is_int, kind_at, spot_at, may_refer};
+ghost use Rattle.class_schema.specs.Class.{Schema};
+ghost use Rattle.class_schema.specs.Lawful.{IsSchema};
+ghost use Rattle.world_play.specs.Turns.{IsReady, Turned, AreMade};
+ghost use Rattle.class_schema.specs.Lawful.{has_target};
+ghost use Rattle.world_play.specs.Cells.{FindsField, FitsObject, FindsElement, FindsCell};
+
+use crate::header::Header;
+use crate::reply::Reply;
+use crate::variables::LaneVariables;
+use level_script::{Field, FieldKind, Spot};
+use world_model::{Engine, Name, Ref, Shape};
+
+/// A field of an object.
+#[derive(Clone, Copy)]
+struct Found {
+    at: Ref,
+    field: Field,
+}
+
+/// A cell of an object, as an element of a field of this kind.
+#[derive(Clone, Copy)]
+struct Cell {
+    at: Ref,
+    slot: u32,
+    kind: FieldKind,
+}
+
+fn is_ref(kind: FieldKind) -> bool
+    ensures { result ≡ is_ref kind }
+{
+    match kind {
+        FieldKind::Ref(_) => true,
+        FieldKind::Weak => false,
+        FieldKind::Int => false,
+    }
+}
+
+fn is_int(kind: FieldKind) -> bool
+    ensures { result ≡ is_int kind }
+{
+    match kind {
+        FieldKind::Ref(_) => false,
+        FieldKind::Weak => false,
+        FieldKind::Int => true,
+    }
+}
+
+/// The field that a spot names of the object of its variable.
+fn find_field<S: Shape, E: Engine<S>>(
+    engine: &mut E,
+    header: &Header<'_>,
+    lane: u32,
+    at: Option<Ref>,
+    spot: Spot,
+) -> Result<Found, Reply>
+    requires frame { IsInFrame S.sizes (E.history engine.old) lane }
+    requires at { IfSome at (E.holds engine.old lane) }
+    requires made { AreMade header.now (after (E.history engine.old)) }
+    ensures finds { FindsField header.now (after (E.history engine.old)) lane (option_map (λ r. r.name) at) spot result }
+    ensures own { IfOk result (λ found. at ≡ Some found.at) }
+    ensures fits { IfOk result (λ found. FitsObject header.now (after (E.history engine.old)) found.at.name found.field) }
+    ensures same { E.history engine.new ≡ E.history engine.old }
+    ensures held { KeepsHeld (E.holds engine.old) (E.holds engine.new) }
+{
+    let Some(at) = at else {
+        return Err(Reply::NoObject(lane));
+    };
+    let kind = engine.kind_of(lane, at);
+    let Some(name) = header.fields.get(spot.field) else {
+        return Err(Reply::NoField(lane));
+    };
+    match header.classes.find_field(kind.class, name) {
+        Some(field) => Ok(Found { at, field }),
+        None => Err(Reply::NoField(lane)),
+    }
+}
+
+/// The reference cell of an element of a field.
+fn ref_cell(lane: u32, found: Found, element: u32) -> Result<Cell, Reply>
+    requires few { is_ref found.field.kind ≡ true → found.field.first + found.field.count < 2 ^ 32 }
+    ensures finds { FindsElement is_ref lane found element result }
+    ensures is { IfOk result (λ cell. is_ref found.field.kind ≡ true) }
+    ensures kind { IfOk result (λ cell. cell.kind ≡ found.field.kind) }
+    ensures low { IfOk result (λ cell. cell.slot < found.field.first + found.field.count) }
+{
+    if !is_ref(found.field.kind) {
+        return Err(Reply::WrongKind(lane));
+    }
+    if element >= found.field.count {
+        return Err(Reply::NoElement(lane));
+    }
+    Ok(Cell {
+        at: found.at,
+        slot: found.field.first + element,
+        kind: found.field.kind,
+    })
+}
+
+/// The plain cell of an element of a field of numbers.
+fn int_cell(lane: u32, found: Found, element: u32) -> Result<Cell, Reply>
+    requires low { is_ref found.field.kind ≡ false → found.field.count ≤ found.field.first + 1 }
+    ensures finds { FindsElement is_int lane found element result }
+    ensures is { IfOk result (λ cell. is_ref found.field.kind ≡ false) }
+    ensures low { IfOk result (λ cell. found.field.first + 1 ≤ cell.slot + found.field.count) }
+    ensures high { IfOk result (λ cell. cell.slot ≤ found.field.first) }
+{
+    if !is_int(found.field.kind) {
+        return Err(Reply::WrongKind(lane));
+    }
+    if element >= found.field.count {
+        return Err(Reply::NoElement(lane));
+    }
+    Ok(Cell {
+        at: found.at,
+        slot: found.field.first - element,
+        kind: found.field.kind,
+    })
+}
+
+/// The reference cell that a spot stands for, where its variable stands for this object.
+fn find_ref<S: Shape, E: Engine<S>>(
+    engine: &mut E,
+    header: &Header<'_>,
+    lane: u32,
+    at: Option<Ref>,
+    spot: Spot,
+) -> Result<Cell, Reply>
+    requires frame { IsInFrame S.sizes (E.history engine.old) lane }
+    requires at { IfSome at (E.holds engine.old lane) }
+    requires slots { header.now.classes.slots ≡ S.sizes.slots }
+    requires schema { IsSchema header.now.classes }
+    requires made { AreMade header.now (after (E.history engine.old)) }
+    ensures finds { FindsCell (spot_at header.now (after (E.history engine.old)).kinds lane is_ref (option_map (λ r. r.name) at) spot) result }
+    ensures own { IfOk result (λ cell. at ≡ Some cell.at) }
+    ensures inside { IfOk result (λ cell. cell.slot < refs_of (after (E.history engine.old)) cell.at.name) }
+    ensures target { IfOk result (λ cell. IsTrue (has_target (length header.now.classes.classes) cell.kind)) }
+    ensures same { E.history engine.new ≡ E.history engine.old }
+    ensures held { KeepsHeld (E.holds engine.old) (E.holds engine.new) }
+{
+    let found = find_field::<S, E>(engine, header, lane, at, spot)?;
+    ref_cell(lane, found, spot.element)
+}
+
+/// The cell of a number that a spot stands for, where its variable stands for this object.
+fn find_int<S: Shape, E: Engine<S>>(
+    engine: &mut E,
+    header: &Header<'_>,
+    lane: u32,
+    at: Option<Ref>,
+    spot: Spot,
+) -> Result<Cell, Reply>
+    requires frame { IsInFrame S.sizes (E.history engine.old) lane }
+    requires at { IfSome at (E.holds engine.old lane) }
+    requires slots { header.now.classes.slots ≡ S.sizes.slots }
+    requires schema { IsSchema header.now.classes }
+    requires made { AreMade header.now (after (E.history engine.old)) }
+    ensures finds { FindsCell (spot_at header.now (after (E.history engine.old)).kinds lane is_int (option_map (λ r. r.name) at) spot) result }
+    ensures own { IfOk result (λ cell. at ≡ Some cell.at) }
+    ensures first { IfOk result (λ cell. S.sizes.slots - plain_of (after (E.history engine.old)) cell.at.name ≤ cell.slot) }
+    ensures last { IfOk result (λ cell. cell.slot < S.sizes.slots) }
+    ensures same { E.history engine.new ≡ E.history engine.old }
+    ensures held { KeepsHeld (E.holds engine.old) (E.holds engine.new) }
+{
+    let found = find_field::<S, E>(engine, header, lane, at, spot)?;
+    int_cell(lane, found, spot.element)
+}
+
+/// Whether an element of this kind may refer to an object, or to none.
+fn may_refer<S: Shape, E: Engine<S>>(
+    engine: &mut E,
+    header: &Header<'_>,
+    lane: u32,
+    kind: FieldKind,
+    to: Option<Ref>,
+) -> bool
+    requires frame { IsInFrame S.sizes (E.history engine.old) lane }
+    requires to { IfSome to (E.holds engine.old lane) }
+    requires made { AreMade header.now (after (E.history engine.old)) }
+    requires target { IsTrue (has_target (length header.now.classes.classes) kind) }
+    ensures test { result ≡ may_refer header.now (after (E.history engine.old)).kinds kind (option_map (λ r. r.name) to) }
+    ensures same { E.history engine.new ≡ E.history engine.old }
+    ensures held { KeepsHeld (E.holds engine.old) (E.holds engine.new) }
+{
+    let FieldKind::Ref(class) = kind else {
+        return false;
+    };
+    let Some(to) = to else {
+        return true;
+    };
+    let own = engine.kind_of(lane, to).class;
+    header.classes.is_a(own, class)
+}
+
+/// The name behind a reference, if there is one.
+fn name_of(at: Option<Ref>) -> Option<Name>
+    ensures { result ≡ option_map (λ r. r.name) at }
+{
+    match at {
+        Some(at) => Some(at.name),
+        None => None,
+    }
+}
+
+/// The object of the value of `set`: that of a variable, or none.
+fn value_of(variables: &LaneVariables, to: Option<u32>) -> Option<Ref>
+    requires { IsTrue (fits_target (length variables.now.slots.items) to) }
+    ensures { result ≡ option_and_then (lane_ref variables.now) to }
+{
+    match to {
+        Some(var) => variables.get(var),
+        None => None,
+    }
+}
+
+/// `set SPOT V` and `set SPOT none`, behind so many lines.
+pub(crate) fn set<S: Shape, E: Engine<S>>(
+    engine: &mut E,
+    header: &Header<'_>,
+    lanes: &[LaneVariables],
+    played: usize,
+    lane: u32,
+    spot: Spot,
+    to: Option<u32>,
+) -> Reply
+    requires { IsReady S.sizes (E.history engine.old) (E.holds engine.old) lanes.now played header.now (who.Lane lane) (cmd.Set spot to) }
+    ensures { (budget : ℕ) → Turned S.sizes budget header.now (E.history engine.old) (E.history engine.new) (E.holds engine.new) lanes.now lanes.now played (who.Lane lane) (cmd.Set spot to) result }
+{
+    let _ = played;
+    let variables = &lanes[lane as usize];
+    let at = variables.get(spot.var);
+    let value = value_of(variables, to);
+    let cell = match find_ref::<S, E>(engine, header, lane, at, spot) {
+        Ok(cell) => cell,
+        Err(refusal) => return refusal,
+    };
+    if !may_refer::<S, E>(engine, header, lane, cell.kind, value) {
+        return Reply::WrongClass(lane);
+    }
+    let old = engine.write_ref(lane, cell.at, cell.slot, value);
+    Reply::Was(lane, name_of(old))
+}
+
+/// `get V SPOT`, behind so many lines.
+pub(crate) fn get<S: Shape, E: Engine<S>>(
+    engine: &mut E,
+    header: &Header<'_>,
+    lanes: &mut [LaneVariables],
+    played: usize,
+    lane: u32,
+    var: u32,
+    spot: Spot,
+) -> Reply
+    requires { IsReady S.sizes (E.history engine.old) (E.holds engine.old) lanes.old played header.now (who.Lane lane) (cmd.Get var spot) }
+    ensures { (budget : ℕ) → Turned S.sizes budget header.now (E.history engine.old) (E.history engine.new) (E.holds engine.new) lanes.old lanes.new played (who.Lane lane) (cmd.Get var spot) result }
+{
+    let _ = played;
+    let at = lanes[lane as usize].get(spot.var);
+    match find_ref::<S, E>(engine, header, lane, at, spot) {
+        Ok(cell) => {
+            let got = engine.read_ref(lane, cell.at, cell.slot);
+            lanes[lane as usize].bind(var, got);
+            Reply::Is(lane, name_of(got))
+        }
+        Err(refusal) => {
+            lanes[lane as usize].bind(var, None);
+            refusal
+        }
+    }
+}
+
+/// `put SPOT N`, behind so many lines.
+pub(crate) fn put<S: Shape, E: Engine<S>>(
+    engine: &mut E,
+    header: &Header<'_>,
+    lanes: &[LaneVariables],
+    played: usize,
+    lane: u32,
+    spot: Spot,
+    value: u64,
+) -> Reply
+    requires { IsReady S.sizes (E.history engine.old) (E.holds engine.old) lanes.now played header.now (who.Lane lane) (cmd.Put spot value) }
+    ensures { (budget : ℕ) → Turned S.sizes budget header.now (E.history engine.old) (E.history engine.new) (E.holds engine.new) lanes.now lanes.now played (who.Lane lane) (cmd.Put spot value) result }
+{
+    let _ = played;
+    let at = lanes[lane as usize].get(spot.var);
+    match find_int::<S, E>(engine, header, lane, at, spot) {
+        Ok(cell) => {
+            let old = engine.write_plain(lane, cell.at, cell.slot, value);
+            Reply::WasNumber(lane, old)
+        }
+        Err(refusal) => refusal,
+    }
+}
+
+/// `take SPOT`, behind so many lines.
+pub(crate) fn take<S: Shape, E: Engine<S>>(
+    engine: &mut E,
+    header: &Header<'_>,
+    lanes: &[LaneVariables],
+    played: usize,
+    lane: u32,
+    spot: Spot,
+) -> Reply
+    requires { IsReady S.sizes (E.history engine.old) (E.holds engine.old) lanes.now played header.now (who.Lane lane) (cmd.Take spot) }
+    ensures { (budget : ℕ) → Turned S.sizes budget header.now (E.history engine.old) (E.history engine.new) (E.holds engine.new) lanes.now lanes.now played (who.Lane lane) (cmd.Take spot) result }
+{
+    let _ = played;
+    let at = lanes[lane as usize].get(spot.var);
+    match find_int::<S, E>(engine, header, lane, at, spot) {
+        Ok(cell) => {
+            let got = engine.read_plain(lane, cell.at, cell.slot);
+            Reply::IsNumber(lane, got)
+        }
+        Err(refusal) => refusal,
+    }
+}
+
+/// `print V`, behind so many lines.
+pub(crate) fn print<S: Shape, E: Engine<S>>(
+    engine: &mut E,
+    header: &Header<'_>,
+    lanes: &[LaneVariables],
+    played: usize,
+    lane: u32,
+    var: u32,
+) -> Reply
+    requires { IsReady S.sizes (E.history engine.old) (E.holds engine.old) lanes.now played header.now (who.Lane lane) (cmd.Print var) }
+    ensures { (budget : ℕ) → Turned S.sizes budget header.now (E.history engine.old) (E.history engine.new) (E.holds engine.new) lanes.now lanes.now played (who.Lane lane) (cmd.Print var) result }
+{
+    let _ = played;
+    let _ = header;
+    match lanes[lane as usize].get(var) {
+        Some(at) => Reply::Object(lane, at.name, engine.kind_of(lane, at).class),
+        None => Reply::NoObject(lane),
+    }
+}
