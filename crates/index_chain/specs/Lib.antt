@@ -1,0 +1,4 @@
+-- What a chain of items is, to be read from top to bottom.
+pub mod Walks
+pub mod Calls
+pub mod Laws
