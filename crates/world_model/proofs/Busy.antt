@@ -116,7 +116,7 @@ either_side Q false x y p q = q
 abbrev pub AllCells : (Name → Type 0) → (Name → ℕ → Option Name) → Type 0
 AllCells Q cell = (n : Name) (slot : ℕ) → IfSome (cell n slot) Q
 
-all_cells_set : (Q : Name → Type 0) (cell : Name → ℕ → Option Name) (at : Name) (slot : ℕ) (to : Option Name) → AllCells Q cell → IfSome to Q → AllCells Q (set_name cell at (set_at (cell at) slot to))
+pub all_cells_set : (Q : Name → Type 0) (cell : Name → ℕ → Option Name) (at : Name) (slot : ℕ) (to : Option Name) → AllCells Q cell → IfSome to Q → AllCells Q (set_name cell at (set_at (cell at) slot to))
 all_cells_set Q cell at slot to all new n k = go (same_name n at)
   where
     go : (b : Bool) → IfSome ((cond b (set_at (cell at) slot to) (cell n)) k) Q

@@ -71,7 +71,7 @@ marking_keeps m w p (act.Scanned of) h = refl
 marking_keeps m w p (act.Slice budget reply) h = refl
 marking_keeps m w p a h = absurd cc
 
-all_keep : (s : State) (entries : List Entry) → AllMark entries → graph (run s entries).world ≡ graph s.world
+pub all_keep : (s : State) (entries : List Entry) → AllMark entries → graph (run s entries).world ≡ graph s.world
 all_keep s [] h = refl
 all_keep s (e ∷ entries) h = all_keep (next s e) entries h.1 ∙ marking_keeps s.marks s.world e.pass e.act h.0
 

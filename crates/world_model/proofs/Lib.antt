@@ -2,6 +2,7 @@ pub mod ListFacts
 pub mod NameFacts
 pub mod Joins
 pub mod Reaches
+pub mod Reached
 pub mod Units
 pub mod Quiet
 pub mod Collections
@@ -12,3 +13,17 @@ pub mod Refused
 pub mod Progress
 pub mod Rounds
 pub mod Queues
+pub mod Inductions
+pub mod Counts
+pub mod Destroying
+pub mod Sound
+pub mod Barrier
+pub mod Stages
+pub mod Removals
+pub mod Places
+pub mod Pairs
+pub mod Frames
+pub mod Floating
+pub mod Headlines
+pub mod Garbage
+pub mod Sharp

@@ -128,3 +128,12 @@ test_among {A} q (y ∷ xs) h = go (test_among q xs) (or_true (q y) (list_any q 
     go : (list_any q xs ≡ true → (x : A) × Among xs x × (q x ≡ true)) → (q y ≡ true) ⊎ (list_any q xs ≡ true) → (x : A) × Among (y ∷ xs) x × (q x ≡ true)
     go rest (inl e) = (y, inl refl, e)
     go rest (inr e) = let r = rest e in (r.0, inr r.1, r.2)
+
+pub among_left : {A : Type 0} (xs ys : List A) (y : A) → Among xs y → Among (xs ++ ys) y
+among_left [] ys y h = absurd h
+among_left (x ∷ xs) ys y (inl e) = inl e
+among_left (x ∷ xs) ys y (inr h) = inr (among_left xs ys y h)
+
+pub among_right : {A : Type 0} (xs ys : List A) (y : A) → Among ys y → Among (xs ++ ys) y
+among_right [] ys y h = h
+among_right (x ∷ xs) ys y h = inr (among_right xs ys y h)

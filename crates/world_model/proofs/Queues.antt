@@ -47,7 +47,7 @@ pub record IsQueue (w : World) (asked : Option Name) (todo ring : List Name) (re
 
 -- ---- lists
 
-other_name : (ns : List Name) (x n : Name) → has ns x ≡ false → Among ns n → same_name x n ≡ false
+pub other_name : (ns : List Name) (x n : Name) → has ns x ≡ false → Among ns n → same_name x n ≡ false
 other_name [] x n h k = absurd k
 other_name (m ∷ ns) x n h (inl e) = ap (same_name x) (sym e) ∙ (or_false _ _ h).0
 other_name (m ∷ ns) x n h (inr k) = other_name ns x n (or_false _ _ h).1 k
@@ -60,7 +60,7 @@ each_more P xs x all is y k = go (among_append xs (x ∷ []) y k)
     go (inr (inl e)) = subst P e is
     go (inr (inr h)) = absurd h
 
-filter_all : {A : Type 0} (p : A → Bool) (xs : List A) → ((x : A) → Among xs x → p x ≡ true) → filter p xs ≡ xs
+pub filter_all : {A : Type 0} (p : A → Bool) (xs : List A) → ((x : A) → Among xs x → p x ≡ true) → filter p xs ≡ xs
 filter_all p [] h = refl
 filter_all p (x ∷ xs) h = rw (h x (inl refl), filter_all p xs (λ y k. h y (inr k))) refl
 
@@ -80,16 +80,16 @@ filter_back p xs ys none all = filter-append p xs ys ∙ (λ i. filter_none p xs
 none_pass : (p : Name → Bool) (ns : List Name) (n : Name) → [] ≡ filter p ns → has ns n ≡ true → p n ≡ false
 none_pass p ns n e h = false_from_ne_true (p n) (λ is. subst (λ (ms : List Name). Among ms n) (sym e) (filter_among p ns n (has_among ns n h) is))
 
-all_at : {A : Type 0} (p : A → Bool) (xs : List A) (x : A) → list_all p xs ≡ true → Among xs x → p x ≡ true
+pub all_at : {A : Type 0} (p : A → Bool) (xs : List A) (x : A) → list_all p xs ≡ true → Among xs x → p x ≡ true
 all_at p [] x h k = absurd k
 all_at p (y ∷ xs) x h (inl e) = ap p (sym e) ∙ (and_true _ _ h).0
 all_at p (y ∷ xs) x h (inr k) = all_at p xs x (and_true _ _ h).1 k
 
-all_from : {A : Type 0} (p : A → Bool) (xs : List A) → ((x : A) → Among xs x → p x ≡ true) → list_all p xs ≡ true
+pub all_from : {A : Type 0} (p : A → Bool) (xs : List A) → ((x : A) → Among xs x → p x ≡ true) → list_all p xs ≡ true
 all_from p [] h = refl
 all_from p (x ∷ xs) h = and_from _ _ (h x (inl refl)) (all_from p xs (λ y k. h y (inr k)))
 
-find_some : {A : Type 0} (p : A → Bool) (xs : List A) (x : A) → find p xs ≡ Some x → Among xs x × (p x ≡ true)
+pub find_some : {A : Type 0} (p : A → Bool) (xs : List A) (x : A) → find p xs ≡ Some x → Among xs x × (p x ≡ true)
 find_some p [] x e = absurd cc
 find_some p (y ∷ xs) x e = go (p y) refl (find_some p xs x) e
   where
@@ -98,7 +98,7 @@ find_some p (y ∷ xs) x e = go (p y) refl (find_some p xs x) e
     go true is rest e = let same : y ≡ x = cc in (inl same, ap p (sym same) ∙ is)
     go false is rest e = let found = rest e in (inr found.0, found.1)
 
-find_none : {A : Type 0} (p : A → Bool) (xs : List A) → find p xs ≡ None → (x : A) → Among xs x → p x ≡ false
+pub find_none : {A : Type 0} (p : A → Bool) (xs : List A) → find p xs ≡ None → (x : A) → Among xs x → p x ≡ false
 find_none p [] e x k = absurd k
 find_none p (y ∷ xs) e x k = go (p y) refl (λ f. find_none p xs f x) e k
   where
@@ -127,14 +127,14 @@ none_found p (x ∷ xs) h = rw (h x (inl refl)) (none_found p xs (λ y k. h y (i
 
 -- ---- units
 
-member_of : (units : List (List Name)) (u : List Name) (n : Name) → Among units u → has u n ≡ true → has (members units) n ≡ true
+pub member_of : (units : List (List Name)) (u : List Name) (n : Name) → Among units u → has u n ≡ true → has (members units) n ≡ true
 member_of [] u n k h = absurd k
 member_of (v ∷ units) u n (inl e) h =
     list_any-append (same_name n) v (members units) ∙ or_left (has v n) _ (ap (λ (ns : List Name). has ns n) e ∙ h)
 member_of (v ∷ units) u n (inr k) h =
     list_any-append (same_name n) v (members units) ∙ or_right (has v n) _ (member_of units u n k h)
 
-unit_with : (units : List (List Name)) (n : Name) → has (members units) n ≡ true → (u : List Name) × Among units u × (has u n ≡ true)
+pub unit_with : (units : List (List Name)) (n : Name) → has (members units) n ≡ true → (u : List Name) × Among units u × (has u n ≡ true)
 unit_with [] n h = absurd cc
 unit_with (v ∷ units) n h = go (or_true _ _ (sym (list_any-append (same_name n) v (members units)) ∙ h)) (unit_with units n)
   where
@@ -148,7 +148,7 @@ second_part : (ns ms : List Name) → all_different (ns ++ ms) ≡ true → all_
 second_part [] ms h = h
 second_part (m ∷ ns) ms h = second_part ns ms (and_true _ _ h).1
 
-in_one_part : (ns ms : List Name) (n : Name) → all_different (ns ++ ms) ≡ true → Among ns n → has ms n ≡ true → ⊥
+pub in_one_part : (ns ms : List Name) (n : Name) → all_different (ns ++ ms) ≡ true → Among ns n → has ms n ≡ true → ⊥
 in_one_part [] ms n h k l = absurd k
 in_one_part (m ∷ ns) ms n h (inr k) l = in_one_part ns ms n (and_true _ _ h).1 k l
 in_one_part (m ∷ ns) ms n h (inl e) l =
@@ -156,7 +156,7 @@ in_one_part (m ∷ ns) ms n h (inl e) l =
     both_ways (has (ns ++ ms) m) none (list_any-append (same_name m) ns ms ∙ or_right (has ns m) _ (ap (has ms) e ∙ l))
 
 -- A name stands in one unit.
-one_unit : (units : List (List Name)) (u v : List Name) (n : Name) → all_different (members units) ≡ true → Among units u → Among units v
+pub one_unit : (units : List (List Name)) (u v : List Name) (n : Name) → all_different (members units) ≡ true → Among units u → Among units v
     → has u n ≡ true → has v n ≡ true → u ≡ v
 one_unit [] u v n different k l a b = absurd k
 one_unit (x ∷ units) u v n different k l a b = go k l (one_unit units u v n (second_part x (members units) different))
@@ -171,16 +171,16 @@ one_unit (x ∷ units) u v n different k l a b = go k l (one_unit units u v n (s
     go (inr k) (inl f) rest = absurd (twice v u f k b a)
     go (inr k) (inr l) rest = rest k l a b
 
-begins_among : (n : Name) (u : List Name) → begins_with n u ≡ true → Among u n
+pub begins_among : (n : Name) (u : List Name) → begins_with n u ≡ true → Among u n
 begins_among n [] h = absurd cc
 begins_among n (m ∷ u) h = inl (sym (same_name_true n m h))
 
-first_begins : (n : Name) (u : List Name) → Some n ≡ first_member u → begins_with n u ≡ true
+pub first_begins : (n : Name) (u : List Name) → Some n ≡ first_member u → begins_with n u ≡ true
 first_begins n [] e = absurd cc
 first_begins n (m ∷ u) e = let same : n ≡ m = cc in ap (same_name n) (sym same) ∙ same_name_refl n
 
 -- a unit of the destruction order is a removed unit, and begins with some name
-unit_in_order : (units : List (List Name)) (found : List Name) (u : List Name) → Among (flat_map (λ n. filter (begins_with n) units) found) u
+pub unit_in_order : (units : List (List Name)) (found : List Name) (u : List Name) → Among (flat_map (λ n. filter (begins_with n) units) found) u
     → Among units u × ((n : Name) × (begins_with n u ≡ true))
 unit_in_order units [] u k = absurd k
 unit_in_order units (n ∷ found) u k = go (among_append (filter (begins_with n) units) _ u k) (unit_in_order units found u)
@@ -192,7 +192,7 @@ unit_in_order units (n ∷ found) u k = go (among_append (filter (begins_with n)
     go (inr h) rest = rest h
 
 -- the unit that is to be released
-ready_unit : (p : List Name → Bool) (order : List (List Name)) (h : Name) → Some h ≡ option_and_then first_member (find p order)
+pub ready_unit : (p : List Name → Bool) (order : List (List Name)) (h : Name) → Some h ≡ option_and_then first_member (find p order)
     → (u : List Name) × Among order u × (p u ≡ true) × (begins_with h u ≡ true)
 ready_unit p order h e = go (find p order) refl e
   where
@@ -249,11 +249,11 @@ now_ready order before after x u different none others among has_x = record {
 
 -- ---- removed objects
 
-named_any : (n : Name) (rs : List Removal) → has (map (λ r. r.name) rs) n ≡ list_any (λ r. same_name n r.name) rs
+pub named_any : (n : Name) (rs : List Removal) → has (map (λ r. r.name) rs) n ≡ list_any (λ r. same_name n r.name) rs
 named_any n [] = refl
 named_any n (r ∷ rs) = ap (λ (b : Bool). same_name n r.name || b) (named_any n rs)
 
-names_kept : (n : Name) (change : Removal → Removal) → ((r : Removal) → (change r).name ≡ r.name) → (rs : List Removal)
+pub names_kept : (n : Name) (change : Removal → Removal) → ((r : Removal) → (change r).name ≡ r.name) → (rs : List Removal)
     → map (λ r. r.name) (map (λ r. if same_name n r.name then change r else r) rs) ≡ map (λ r. r.name) rs
 names_kept n change same [] = refl
 names_kept n change same (r ∷ rs) = λ i. first i ∷ names_kept n change same rs i
@@ -261,7 +261,7 @@ names_kept n change same (r ∷ rs) = λ i. first i ∷ names_kept n change same
     first : (if same_name n r.name then change r else r).name ≡ r.name
     first = cond_both (same_name n r.name) (change r) r (λ s. s.name ≡ r.name) (λ e. same r) (λ e. refl)
 
-names_left : (keep : Removal → Bool) (rs : List Removal) → all_different (map (λ r. r.name) rs) ≡ true
+pub names_left : (keep : Removal → Bool) (rs : List Removal) → all_different (map (λ r. r.name) rs) ≡ true
     → all_different (map (λ r. r.name) (filter keep rs)) ≡ true
 names_left keep [] h = h
 names_left keep (r ∷ rs) h =
@@ -275,7 +275,7 @@ names_left keep (r ∷ rs) h =
         both_ways (has (map (λ r. r.name) rs) r.name) none (named_any r.name rs ∙ any_filter (λ s. same_name r.name s.name) keep rs h))
 
 -- a removed object that is at none of the other stages is finished
-last_stage : (n : Name) (rs : List Removal) → list_any (λ r. same_name n r.name) rs ≡ true
+pub last_stage : (n : Name) (rs : List Removal) → list_any (λ r. same_name n r.name) rs ≡ true
     → list_any (λ r. same_name n r.name && has_stage Removed r.stage) rs ≡ false
     → list_any (λ r. same_name n r.name && has_stage Begun r.stage) rs ≡ false
     → list_any (λ r. same_name n r.name && has_stage Finished r.stage) rs ≡ true
@@ -295,7 +295,7 @@ last_stage n (r ∷ rs) h a b = go (same_name n r.name) r.stage (last_stage n rs
     go false s rest h a b = rest h a b
 
 -- the stage of an object where none is begun
-fresh : (n : Name) (stage : Stage) (rs : List Removal) → ((r : Removal) → Among rs r → r.stage ≡ Removed)
+pub fresh : (n : Name) (stage : Stage) (rs : List Removal) → ((r : Removal) → Among rs r → r.stage ≡ Removed)
     → list_any (λ r. same_name n r.name && has_stage stage r.stage) rs ≡ (has_stage stage Removed && list_any (λ r. same_name n r.name) rs)
 fresh n stage [] h = and_comm false (has_stage stage Removed)
 fresh n stage (r ∷ rs) h =
@@ -309,11 +309,11 @@ fresh n stage (r ∷ rs) h =
     spread false false c = refl
 
 -- a removed object whose stage changed is at the new one
-restaged : (w : World) (x : Name) (new stage : Stage) → in_removals w x ≡ true → is_at (at_stage w x new) stage x ≡ has_stage stage new
+pub restaged : (w : World) (x : Name) (new stage : Stage) → in_removals w x ≡ true → is_at (at_stage w x new) stage x ≡ has_stage stage new
 restaged w x new stage is = is_at-at_stage_same w x new stage ∙ ap (λ (b : Bool). has_stage stage new && b) is ∙ and_comm (has_stage stage new) true
 
 -- where an object's stage changed, the same objects as before are at a stage that is neither its old one nor its new one
-elsewhere : (w : World) (x : Name) (old new stage : Stage) → IsOrder w → is_at w old x ≡ true
+pub elsewhere : (w : World) (x : Name) (old new stage : Stage) → IsOrder w → is_at w old x ≡ true
     → has_stage stage old ≡ false → has_stage stage new ≡ false → (n : Name) → is_at (at_stage w x new) stage n ≡ is_at w stage n
 elsewhere w x old new stage order at a b n = go (same_name x n) refl
   where

@@ -89,12 +89,12 @@ kept_slices : (g : Graph) (opened : List Pass) (slices : ℕ → Slicing) (k : �
     → ((m : ℕ) → list_any (same_pass (Marker m)) opened ≡ true → SameGraphs g (slices m).moments) → (m : ℕ) → list_any (same_pass (Marker m)) opened ≡ true → SameGraphs g (set_at slices k new m).moments
 kept_slices g opened slices k new same h m is = chosen g slices k m new (λ e. subst (SameGraphs g) (sym same) (subst (λ (i : ℕ). SameGraphs g (slices i).moments) e (h m is))) (λ f. h m is)
 
-not_open : (w : World) (p : Pass) → list_any (same_pass p) w.opened ≡ true → w.opened ≡ [] → ⊥
+pub not_open : (w : World) (p : Pass) → list_any (same_pass p) w.opened ≡ true → w.opened ≡ [] → ⊥
 not_open w p is none = let wrong : false ≡ true = rw none at is in cc
 
 -- ---- from a steady state
 
-any_none : (u : List Name) → list_any (has []) u ≡ true → ⊥
+pub any_none : (u : List Name) → list_any (has []) u ≡ true → ⊥
 any_none [] h = cc
 any_none (n ∷ u) h = any_none u h
 
@@ -176,7 +176,7 @@ steady_next z s (Marker marker) a may quiet apart h = steady_marker z s marker a
 
 -- ---- from a stuck state
 
-other_lane : (lane l : ℕ) (x : Pass) → (lane == l) ≡ false → same_pass (Lane lane) x ≡ true → not (same_pass (Lane l) x) ≡ true
+pub other_lane : (lane l : ℕ) (x : Pass) → (lane == l) ≡ false → same_pass (Lane lane) x ≡ true → not (same_pass (Lane l) x) ≡ true
 other_lane lane l (Lane j) apart e = go (l == j) refl
   where
     go : (b : Bool) → (l == j) ≡ b → not b ≡ true
@@ -185,7 +185,7 @@ other_lane lane l (Lane j) apart e = go (l == j) refl
 other_lane lane l (Marker m) apart e = absurd cc
 other_lane lane l Collector apart e = absurd cc
 
-no_lane : (lane m : ℕ) (x : Pass) → same_pass (Lane lane) x ≡ true → not (same_pass (Marker m) x) ≡ true
+pub no_lane : (lane m : ℕ) (x : Pass) → same_pass (Lane lane) x ≡ true → not (same_pass (Marker m) x) ≡ true
 no_lane lane m (Lane j) e = refl
 no_lane lane m (Marker j) e = absurd cc
 no_lane lane m Collector e = absurd cc
@@ -196,7 +196,7 @@ own_stuck z s lane n (act.FrameOpen phase) may quiet is owed = let wrong : list_
 own_stuck z s lane n a may quiet is owed = pays_quiet s.world n a quiet (rw owed at may.frame.continues)
 
 -- a lane stays open under the entries of others
-still_open : (s : State) (p : Pass) (a : Act) (lane : ℕ) → ((x : Pass) → same_pass (Lane lane) x ≡ true → not (same_pass p x) ≡ true) → list_any (same_pass (Lane lane)) s.world.opened ≡ true
+pub still_open : (s : State) (p : Pass) (a : Act) (lane : ℕ) → ((x : Pass) → same_pass (Lane lane) x ≡ true → not (same_pass p x) ≡ true) → list_any (same_pass (Lane lane)) s.world.opened ≡ true
     → list_any (same_pass (Lane lane)) (next_world s.marks s.world p a).opened ≡ true
 still_open s p (act.FrameOpen phase) lane other is = or_right (same_pass (Lane lane) p) _ is
 still_open s p act.SliceOpen lane other is = or_right (same_pass (Lane lane) p) _ is
@@ -206,7 +206,7 @@ still_open s p (act.BeginGc begin.Started) lane other is = is
 still_open s p (act.CommitGc commit.Done) lane other is = is
 still_open s p _ lane other is = is
 
-no_collector : (lane : ℕ) (x : Pass) → same_pass (Lane lane) x ≡ true → not (same_pass Collector x) ≡ true
+pub no_collector : (lane : ℕ) (x : Pass) → same_pass (Lane lane) x ≡ true → not (same_pass Collector x) ≡ true
 no_collector lane (Lane j) e = refl
 no_collector lane (Marker j) e = refl
 no_collector lane Collector e = absurd cc
@@ -224,7 +224,7 @@ stuck_next z s (Lane l) a may quiet stuck = go (stuck.0 == l) refl
 
 -- ---- from a state in which no collection marks
 
-settled_not : (phase : Phase) (stop : SweepStop) → phase ≢ Marking → settled phase stop ≢ Marking
+pub settled_not : (phase : Phase) (stop : SweepStop) → phase ≢ Marking → settled phase stop ≢ Marking
 settled_not phase sweep.More h = h
 settled_not phase sweep.Settled h = λ e. cc
 settled_not phase (sweep.NotGathering p) h = h

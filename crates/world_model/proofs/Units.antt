@@ -19,7 +19,7 @@ pub record AreApart (kinds : ℕ → List Kind) (units : List (List Name)) : Typ
   pub apart : (u v : List Name) (n : Name) → Among units u → Among units v → has u n ≡ true → has v n ≡ true → u ≡ v
 
 -- a lane that makes more names has made no fewer, and the new ones are among them
-grown : (kinds : ℕ → List Kind) (lane : ℕ) (more : List Kind) (l : ℕ) → length (kinds l) ≤ length (set_at kinds lane (kinds lane ++ more) l)
+pub grown : (kinds : ℕ → List Kind) (lane : ℕ) (more : List Kind) (l : ℕ) → length (kinds l) ≤ length (set_at kinds lane (kinds lane ++ more) l)
 grown kinds lane more l = go (l == lane) refl
   where
     go : (b : Bool) → (l == lane) ≡ b → length (kinds l) ≤ length (cond b (kinds lane ++ more) (kinds l))
@@ -29,7 +29,7 @@ grown kinds lane more l = go (l == lane) refl
         omega arith
     go false e = omega arith
 
-new_made : (kinds : ℕ → List Kind) (lane : ℕ) (more : List Kind) (n : Name) → n.lane ≡ lane → n.count ≤ length (kinds lane) + length more → n.count ≤ length (set_at kinds lane (kinds lane ++ more) n.lane)
+pub new_made : (kinds : ℕ → List Kind) (lane : ℕ) (more : List Kind) (n : Name) → n.lane ≡ lane → n.count ≤ length (kinds lane) + length more → n.count ≤ length (set_at kinds lane (kinds lane ++ more) n.lane)
 new_made kinds lane more n own below = go (n.lane == lane) refl
   where
     go : (b : Bool) → (n.lane == lane) ≡ b → n.count ≤ length (cond b (kinds lane ++ more) (kinds n.lane))

@@ -1,5 +1,5 @@
--- Worked histories: two that are legal, and entries that are refused after a legal history.
-use Rattle.std.specs.Prelude.{ℕ, zero, suc, true, false, List, [], ◌∷◌, ◌++◌, Some, None}
+-- Worked histories: three that are legal, and entries that are refused after a legal history.
+use Rattle.std.specs.Prelude.{◌≡◌, ℕ, IsTrue, zero, suc, true, false, List, [], ◌∷◌, ◌++◌, Some, None}
 use Rattle.world_model.specs.Types.{Name, Weak, Kind, Pass, Idle, Marking, Lane, Marker, Collector, Act, Entry}
 use Rattle.world_model.specs.Types.act
 use Rattle.world_model.specs.Types.ready
@@ -9,7 +9,13 @@ use Rattle.world_model.specs.Types.commit
 use Rattle.world_model.specs.Types.sweep
 use Rattle.world_model.specs.Types.purge
 use Rattle.world_model.specs.Sizes.{Sizes, level, small}
-use Rattle.world_model.specs.Histories.{Legal, Step}
+use Rattle.world_model.specs.NameLists.{has}
+use Rattle.world_model.specs.Reach.{graph, IsUnit, IsReached}
+use Rattle.world_model.specs.World.{in_world, unit_of, resolved}
+use Rattle.world_model.specs.State.{Holds, is_marked, grey_units}
+use Rattle.world_model.specs.Histories.{Legal, Step, state_of, after}
+use Rattle.world_model.specs.Laws.{started, done}
+use Rattle.world_model.specs.Follows.{names_stored, times_begun, times_finished, WasGiven}
 
 abbrev pub did : Pass → Act → Entry
 did p a = record { pass = p; act = a }
@@ -190,6 +196,68 @@ busy =
     ∷ did Collector (act.CommitGc commit.Done)
     ∷ did Collector (act.Sweep 100 (record { looked = 16; found = 0; stop = sweep.Settled }) [])
     ∷ []
+
+-- ---- in Small: garbage that outlives a collection, though no root reaches it and no store names it
+
+-- three objects that no root reaches: the first two have weak pointers, and the second refers to the third
+abbrev pub garbage : List Entry
+garbage =
+    did (Lane 0) (act.FrameOpen Idle)
+    ∷ did (Lane 0) (act.Make (node_kind ∷ []) 1)
+    ∷ did (Lane 0) (act.WeakOf (name 1) (record { index = 0; serial = 16 }))
+    ∷ did (Lane 0) (act.Make (node_kind ∷ []) 2)
+    ∷ did (Lane 0) (act.WeakOf (name 2) (record { index = 1; serial = 32 }))
+    ∷ did (Lane 0) (act.Make (node_kind ∷ []) 3)
+    ∷ did (Lane 0) (act.WriteRef (name 2) 0 (Some (name 3)) None)
+    ∷ did (Lane 0) act.FrameClose
+    ∷ []
+
+-- while a collection marks, weak pointers give the first two to a lane, which stores the second in the first
+abbrev pub garbage_stored : List Entry
+garbage_stored =
+    did (Lane 0) (act.FrameOpen Marking)
+    ∷ did (Lane 0) (act.Resolve (record { index = 0; serial = 16 }) (Some (name 1)))
+    ∷ did (Lane 0) (act.Resolve (record { index = 1; serial = 32 }) (Some (name 2)))
+    ∷ did (Lane 0) (act.Kept (name 2))
+    ∷ did (Lane 0) (act.WriteRef (name 1) 0 (Some (name 2)) None)
+    ∷ []
+
+-- a marker follows the reference to the third
+abbrev pub garbage_scanned : List Entry
+garbage_scanned =
+    did (Lane 0) act.FrameClose
+    ∷ did (Marker 0) act.SliceOpen
+    ∷ did (Marker 0) (act.Kept (name 3))
+    ∷ did (Marker 0) (act.Scanned (name 2))
+    ∷ did (Marker 0) (act.Scanned (name 3))
+    ∷ did (Marker 0) (act.Slice 100 (record { scanned = 2; stop = stop.Idle }))
+    ∷ []
+
+-- the whole collection, up to its commit
+abbrev pub garbage_marked : List Entry
+garbage_marked = garbage ++ started ∷ (garbage_stored ++ garbage_scanned)
+
+-- What no root reaches at any moment of a collection, no lane holds and no store names may all the same outlive it: here the third object.
+pub record GarbageStays : Type 0 where
+  pub legal : Legal small (garbage_marked ++ done ∷ [])
+  pub unreached : (xs ys : List Entry) → xs ++ ys ≡ garbage_marked → (u : List Name) → IsReached (graph (after xs)) u → ⊥
+  pub unheld : (lane : ℕ) → Holds (state_of (garbage ++ started ∷ garbage_stored)) lane (name 3) → ⊥
+  pub unnamed : has (names_stored (garbage_stored ++ garbage_scanned)) (name 3) ≡ false
+  pub stays : IsUnit (graph (after (garbage_marked ++ done ∷ []))) (name 3 ∷ [])
+
+-- ---- laws that would be too strong
+
+-- What worked histories show of the laws: each says no more than it can.
+pub record AreSharp : Type 0 where
+  -- an object that was begun need not be finished, and one may be finished while another of its unit is not
+  pub begun_alone : (times_begun half_begun (name 3) ≡ 1) × (times_finished half_begun (name 3) ≡ 0)
+  pub finished_alone : (times_finished half_finished (name 3) ≡ 1) × (times_finished half_finished (name 4) ≡ 0)
+  -- where a root unit is not marked, a unit may be white and reached though nothing is grey
+  pub white_reached : (grey_units (state_of rooted_one) ≡ []) × IsReached (graph (after rooted_one)) (name 1 ∷ []) × (is_marked (state_of rooted_one).marks (name 1 ∷ []) ≡ false)
+  -- while a collection marks, a unit in the world need not be marked
+  pub white_lives : IsTrue (in_world (after root_marked) (name 2)) × (is_marked (state_of root_marked).marks (unit_of (after root_marked) (name 2)) ≡ false)
+  -- a pair that was given gives none after the removal of its object
+  pub given_none : WasGiven cluster_removed (name 3) third_pair × (resolved (after cluster_removed) third_pair ≡ None)
 
 -- ---- wrong entries
 

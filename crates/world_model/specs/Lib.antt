@@ -7,6 +7,7 @@ pub mod NameLists
 -- the world of objects, and what the root set reaches in it
 pub mod World
 pub mod Reach
+pub mod Reached
 -- a history as a fold: what it leaves, and what each entry changes
 pub mod State
 pub mod Next
@@ -22,4 +23,5 @@ pub mod Hooks
 pub mod Engines
 -- laws, and histories that are legal or refused
 pub mod Laws
+pub mod Follows
 pub mod Examples

@@ -1,5 +1,6 @@
 //! Laws of histories and of reachability, each the contract of a function that does nothing.
 ghost use Rattle.world_model.specs.Reach.{Graph};
+ghost use Rattle.world_model.specs.Reached.{ReachBySteps};
 ghost use Rattle.world_model.specs.Laws.{HistoriesJoin, QuietIsExact, CollectIsExact, ReachByWalks};
 
 /// The world after two histories joined is what the second leaves from the first; and the whole is
@@ -23,4 +24,10 @@ pub fn collect_is_exact()
 /// units of which both hold.
 pub fn reach_by_walks()
     ensures { (g : Graph) → ReachByWalks g }
+{}
+
+/// Where objects have so many cells, a unit is reached exactly where as many steps from the root
+/// units as there are units come to it: a test that a program can run.
+pub fn reach_by_steps()
+    ensures { ReachBySteps }
 {}

@@ -6,13 +6,14 @@
 //!
 //! The definitions stand in `specs/`, in the order in which `specs/Lib.antt` lists them, and make a
 //! text of their own. The layers above use the types, [`Shape`], [`Engine`], [`Hooks`], [`Diary`]
-//! and the laws of [`laws`]; nothing here knows an array, a mark bit or a word.
+//! and the laws of [`laws`] and [`follows`]; nothing here knows an array, a mark bit or a word.
 #![tactic(auto)]
 
 mod act;
 mod diary;
 mod engine;
 pub mod examples;
+pub mod follows;
 mod hooks;
 mod kind;
 pub mod laws;

@@ -13,4 +13,3 @@ pub mod KeptKinds
 pub mod Collecting
 pub mod Playing
 pub mod Ending
-pub mod Reached

@@ -26,7 +26,8 @@ use Rattle.world_play.specs.Types.begin
 use Rattle.world_play.specs.Types.sweep
 use Rattle.world_play.specs.Plays.{SweepsMore, SweepsAll, Collected, first_begin}
 use Rattle.world_play.specs.Outcome.{Scene, is_reached, unreached, collected}
-use Rattle.world_play.proofs.Reached.{TellsRoots, reached_told, told_reached}
+use Rattle.world_model.specs.Reached.{TellsRoots}
+use Rattle.world_model.proofs.Reached.{reached_told, told_reached}
 use Rattle.world_model.specs.Hooks.{class_of}
 use Rattle.world_play.proofs.Order.{same_order}
 use Rattle.world_play.proofs.Destroying.{weight, weight_most, names_of, removed_name, InTable, purges_end}

@@ -3,7 +3,6 @@ pub mod Header
 pub mod Text
 pub mod Spots
 pub mod Plays
-pub mod Reached
 pub mod Outcome
 pub mod Laws
 pub mod Streams

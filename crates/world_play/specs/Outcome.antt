@@ -6,7 +6,7 @@ use Rattle.world_model.specs.NameLists.{same_pass, has, members, set_at, set_nam
 use Rattle.world_model.specs.Sizes.{Sizes}
 use Rattle.class_schema.specs.Table.{kind_of}
 use Rattle.world_model.specs.Reach.{Graph}
-use Rattle.world_play.specs.Reached as reach
+use Rattle.world_model.specs.Reached as reach
 use Rattle.world_play.specs.Header.{Header}
 use Rattle.world_play.specs.Spots.{Element, value_of, set_spot, get_spot, int_spot, told_object}
 use Rattle.world_play.specs.Types.{Name, Kind, Idle, Pass, Lane, Reply, Line, Who, Cmd}

@@ -5,10 +5,10 @@ use Rattle.std.proofs.Math.Logic.{dite}
 use Rattle.std.proofs.Math.Decide.{ℕ_discrete, dec_le}
 use Rattle.std.proofs.Math.Nat.{lt_of_not-le}
 use Rattle.std.proofs.lemmas.List.Sums.{sum_by-cons, count_by-le-length}
-use Rattle.world_play.specs.Types.{Name}
+use Rattle.world_model.specs.Types.{Name}
 use Rattle.world_model.specs.NameLists.{has}
 use Rattle.world_model.specs.Reach.{Graph, IsUnit, Refers, IsRootUnit, Walk, IsReached}
-use Rattle.world_play.specs.Reached.{within_steps, names_member, object_refers, refers_to, is_reached}
+use Rattle.world_model.specs.Reached.{within_steps, names_member, object_refers, refers_to, is_reached, HasSlots, TellsRoots, ReachBySteps}
 use Rattle.world_model.proofs.ListFacts.{Among, and_true, or_true, or_right, contains_among, among_contains, among_test, test_among}
 use Rattle.world_model.proofs.NameFacts.{has_among, among_has}
 use Rattle.world_model.proofs.Reaches.{reach_by_walks_holds}
@@ -111,10 +111,6 @@ pub range_among : (first count k : ℕ) → first ≤ k → k < first + count �
 range_among first zero k low high = absurd (omega (arith, low, high))
 range_among first (suc count) k low high = dite (ℕ_discrete first k) (λ same. inl same) (λ other. inr (range_among (first + 1) count k (omega (arith, low, other)) (omega (arith, high))))
 
--- the cells of objects are empty from a slot on
-abbrev pub HasSlots : ℕ → Graph → Type 0
-HasSlots slots g = (from : Name) (slot : ℕ) → slots ≤ slot → g.cell from slot ≡ None
-
 names_member_of : (o : Option Name) (to : Name) (v : List Name) → o ≡ Some to → has v to ≡ true → names_member o v ≡ true
 names_member_of None to v e h = absurd cc
 names_member_of (Some other) to v e h = let same : other ≡ to = cc in rw same h
@@ -138,11 +134,6 @@ told_refers slots g u v e =
     record { from = from.0; slot = slot.0; to = to.0; cell = to.1; member = among_has u from.0 from.1; target = to.2 }
 
 -- ---- the test that a unit is reached
-
--- the test says which units are root units
-pub record TellsRoots (g : Graph) (root : List Name → Bool) : Type 0 where
-  pub sound : (u : List Name) → root u ≡ true → IsRootUnit g u
-  pub whole : (u : List Name) → IsRootUnit g u → root u ≡ true
 
 -- what so many steps reach is reached by a walk
 steps_walk : (slots : ℕ) (root : List Name → Bool) (g : Graph) (k : ℕ) (u : List Name) → TellsRoots g root → IsUnit g u → within_steps root (refers_to slots g) g.units k u ≡ true → IsReached g u
@@ -170,3 +161,6 @@ reached_told slots root g u few tells r = walk_steps slots root g r.root r.rest 
 
 pub told_reached : (slots : ℕ) (root : List Name → Bool) (g : Graph) (u : List Name) → TellsRoots g root → IsUnit g u → is_reached slots root g u ≡ true → IsReached g u
 told_reached slots root g u tells unit e = steps_walk slots root g (length g.units) u tells unit e
+
+pub reach_by_steps : ReachBySteps
+reach_by_steps slots root g u few tells unit = (told_reached slots root g u tells unit, reached_told slots root g u few tells)

@@ -1,0 +1,388 @@
+-- What follows from the rules, in every legal history.
+use Rattle.std.specs.Prelude.{◌≡◌, ◌≢◌, ◌↔◌, ℕ, ◌+◌, ◌<◌, ◌≤◌, ◌==◌, Bool, true, false, ◌||◌, if◌then◌else◌, ◌⊎◌, List, [], ◌∷◌, ◌++◌, map, length, count_by, Option, Some, None, IsTrue, Contains}
+use Rattle.std.specs.List.{list_any, filter, flat_map, AllByRecursion}
+use Rattle.std.specs.Option.{option_to_list}
+use Rattle.world_model.specs.Types.{Name, Weak, Marked, Phase, Idle, Marking, Gathering, Pass, Lane, Marker, Collector, Act, Entry}
+use Rattle.world_model.specs.Types.act
+use Rattle.world_model.specs.Types.begin
+use Rattle.world_model.specs.Types.commit
+use Rattle.world_model.specs.Sizes.{Sizes, IsLawful}
+use Rattle.world_model.specs.NameLists.{same_name, same_pass, has, all_different, members, begins_with, names_from}
+use Rattle.world_model.specs.World.{World, Pair, Removed, Begun, Finished, unit_of, in_world, is_open, made, occupied, free, resolved, drawn, is_at}
+use Rattle.world_model.specs.Reach.{Graph, graph, IsUnit, Refers, IsRootUnit, Walk, IsReached}
+use Rattle.world_model.specs.State.{State, beginning, Holds, IsMarked, is_marked, is_grey, grey_units}
+use Rattle.world_model.specs.Next.{lane_of, next}
+use Rattle.world_model.specs.Histories.{state_of, after, Legal}
+use Rattle.world_model.specs.Calls.{Appends}
+use Rattle.world_model.specs.Laws.{started, done}
+
+-- ---- words
+
+-- an entry of this pass
+abbrev pub entry : Pass → Act → Entry
+entry p a = record { pass = p; act = a }
+
+-- the act starts a collection
+abbrev pub is_start : Act → Bool
+is_start (act.BeginGc begin.Started) = true
+is_start _ = false
+
+-- the act is a commit that is done
+abbrev pub is_done : Act → Bool
+is_done (act.CommitGc commit.Done) = true
+is_done _ = false
+
+-- none of these entries is a commit that is done
+abbrev pub NoneDone : List Entry → Type 0
+NoneDone entries = AllByRecursion (λ e. is_done e.act ≡ false) entries
+
+-- the object was made
+abbrev pub IsMade : World → Name → Type 0
+IsMade w n = (1 ≤ n.count) × (n.count ≤ made w n.lane)
+
+-- the object is removed and not released
+abbrev pub is_removed : World → Name → Bool
+is_removed w n = list_any (λ r. same_name n r.name) w.removals
+
+-- the objects that an entry makes
+abbrev pub made_by : Pass → Act → List Name
+made_by p (act.Make kinds first) = names_from (lane_of p) first kinds
+made_by p _ = []
+
+-- all objects that a history makes, in order
+abbrev pub names_made : List Entry → List Name
+names_made history = flat_map (λ e. made_by e.pass e.act) history
+
+-- the removed objects that an entry releases
+abbrev pub freed_by : World → Act → List Name
+freed_by w (act.Released of) = map (λ r. r.name) (filter (λ r. has (members (filter (begins_with of) w.last_removed)) r.name) w.removals)
+freed_by w _ = []
+
+-- all objects that entries release from a state on, in order
+abbrev pub names_released_from : State → List Entry → List Name
+names_released_from s [] = []
+names_released_from s (e ∷ entries) = freed_by s.world e.act ++ names_released_from (next s e) entries
+
+abbrev pub names_released : List Entry → List Name
+names_released history = names_released_from beginning history
+
+-- ---- what lives
+
+-- What a lane holds lives, and its frame is open.
+abbrev pub HeldLives : Type 0
+HeldLives = (z : Sizes) (history : List Entry) → Legal z history → (lane : ℕ) (n : Name) → Holds (state_of history) lane n
+    → IsTrue (in_world (after history) n) × IsTrue (is_open (after history) (Lane lane))
+
+-- what a cell of an object that lives names, what is rooted, and what a strong pointer names lives
+pub record NamesLive (w : World) : Type 0 where
+  pub cells : (at : Name) (slot : ℕ) (n : Name) → IsTrue (in_world w at) → w.cell at slot ≡ Some n → IsTrue (in_world w n)
+  pub rooted : (n : Name) → IsTrue (w.rooted n) → IsTrue (in_world w n)
+  pub strong : (lane number : ℕ) (n : Name) → w.strong lane number ≡ Some n → IsTrue (in_world w n)
+
+abbrev pub NamedLives : Type 0
+NamedLives = (z : Sizes) (history : List Entry) → Legal z history → NamesLive (after history)
+
+-- After an entry there live the objects that it makes, and those that lived before it; after a commit, of these, those of marked units.
+abbrev pub LivesAfter : Type 0
+LivesAfter = (z : Sizes) (history : List Entry) (e : Entry) → Legal z (history ++ e ∷ []) → (n : Name) → IsTrue (in_world (after (history ++ e ∷ [])) n)
+    ↔ (IsTrue (has (made_by e.pass e.act) n) ⊎ (IsTrue (in_world (after history) n) × (IsTrue (is_done e.act) → IsMarked (state_of history) n)))
+
+-- An object that was made and does not live does not live again.
+abbrev pub NoneComesBack : Type 0
+NoneComesBack = (z : Sizes) (before more : List Entry) → Legal z (before ++ more) → (n : Name) → IsMade (after before) n → in_world (after before) n ≡ false → in_world (after (before ++ more)) n ≡ false
+
+-- As long as an object lives it stays in its unit.
+abbrev pub UnitStays : Type 0
+UnitStays = (z : Sizes) (before more : List Entry) → Legal z (before ++ more) → (n : Name) → IsTrue (in_world (after before) n) → IsTrue (in_world (after (before ++ more)) n)
+    → unit_of (after (before ++ more)) n ≡ unit_of (after before) n
+
+-- a name stands in one unit, and once; each unit has a member; and outside marking each unit counts as marked
+pub record AreUnits (s : State) : Type 0 where
+  pub apart : (u v : List Name) (n : Name) → IsUnit (graph s.world) u → IsUnit (graph s.world) v → IsTrue (has u n) → IsTrue (has v n) → u ≡ v
+  pub once : IsTrue (all_different (members s.world.units))
+  pub some : (u : List Name) → IsUnit (graph s.world) u → u ≢ []
+  pub marked : s.world.phase ≢ Marking → (u : List Name) → IsUnit (graph s.world) u → IsTrue (is_marked s.marks u)
+
+abbrev pub UnitsAreSound : Type 0
+UnitsAreSound = (z : Sizes) (history : List Entry) → Legal z history → AreUnits (state_of history)
+
+-- exactly one of these tests passes
+abbrev pub ExactlyOne : List Bool → Type 0
+ExactlyOne tests = count_by (λ test. test) tests ≡ 1
+
+-- an object that was made lives, or is removed, or is released, and exactly one of these; and nothing else is anywhere
+pub record IsInOnePlace (history : List Entry) (n : Name) : Type 0 where
+  pub made : IsMade (after history) n → ExactlyOne (in_world (after history) n ∷ is_removed (after history) n ∷ has (names_released history) n ∷ [])
+  pub only : IsTrue (in_world (after history) n || (is_removed (after history) n || has (names_released history) n)) → IsMade (after history) n
+
+abbrev pub EachInOnePlace : Type 0
+EachInOnePlace = (z : Sizes) (history : List Entry) → Legal z history → (n : Name) → IsInOnePlace history n
+
+-- ---- marking
+
+-- The tri-colour invariant (Dijkstra and others 1978): while a collection marks, a marked unit that is not grey refers to marked units alone.
+abbrev pub BlackRefersToMarked : Type 0
+BlackRefersToMarked = (z : Sizes) (history : List Entry) → Legal z history → (after history).phase ≡ Marking → (u v : List Name)
+    → IsUnit (graph (after history)) u → IsUnit (graph (after history)) v → Refers (graph (after history)) u v
+    → IsTrue (is_marked (state_of history).marks u) → is_grey (state_of history).marks u ≡ false → IsTrue (is_marked (state_of history).marks v)
+
+-- each root unit is marked
+abbrev pub RootsMarked : State → Type 0
+RootsMarked s = (u : List Name) → IsUnit (graph s.world) u → IsRootUnit (graph s.world) u → IsTrue (is_marked s.marks u)
+
+-- While a collection marks, where nothing is grey and each root unit is marked, each unit that is reached is marked.
+abbrev pub NoWhiteReached : Type 0
+NoWhiteReached = (z : Sizes) (history : List Entry) → Legal z history → (after history).phase ≡ Marking → grey_units (state_of history) ≡ [] → RootsMarked (state_of history)
+    → (u : List Name) → IsReached (graph (after history)) u → IsTrue (is_marked (state_of history).marks u)
+
+-- A solo start of a collection marks each root unit.
+abbrev pub StartMarksRoots : Type 0
+StartMarksRoots = (z : Sizes) (old new : List Entry) → Appends z old new Collector (act.BeginGc begin.Started) → RootsMarked (state_of new)
+
+-- While a collection marks, marked root units stay marked.
+abbrev pub RootsStayMarked : Type 0
+RootsStayMarked = (z : Sizes) (before during : List Entry) → Legal z (before ++ during) → (after before).phase ≡ Marking → RootsMarked (state_of before)
+    → NoneDone during → RootsMarked (state_of (before ++ during))
+
+-- So behind a solo start what the commit rule says of white units follows from the rest of it: where nothing is grey, no white unit is reached.
+abbrev pub CommitRuleFollows : Type 0
+CommitRuleFollows = (z : Sizes) (old new during : List Entry) → Appends z old new Collector (act.BeginGc begin.Started) → Legal z (new ++ during) → NoneDone during
+    → grey_units (state_of (new ++ during)) ≡ [] → (u : List Name) → is_marked (state_of (new ++ during)).marks u ≡ false → IsReached (graph (after (new ++ during))) u → ⊥
+
+-- ---- removal
+
+-- what an entry removes: units that are reached stay, and any other one goes whole and by a commit alone, to the removed ones
+pub record KeepsOrRemoves (before now : World) (e : Entry) : Type 0 where
+  pub reached_stay : (u : List Name) → IsReached (graph before) u → IsUnit (graph now) u
+  pub others : (u : List Name) → IsUnit (graph before) u → IsUnit (graph now) u ⊎ ((e ≡ done) × Contains now.last_removed u)
+
+abbrev pub ReachedStay : Type 0
+ReachedStay = (z : Sizes) (history : List Entry) (e : Entry) → Legal z (history ++ e ∷ []) → KeepsOrRemoves (after history) (after (history ++ e ∷ [])) e
+
+-- what a commit removes is whole units that lived, none of them reached; their members are removed and do not live
+pub record RemovesUnreached (before now : World) : Type 0 where
+  pub units : (u : List Name) → Contains now.last_removed u → IsUnit (graph before) u
+  pub unreached : (u : List Name) → Contains now.last_removed u → IsReached (graph before) u → ⊥
+  pub removed : (n : Name) → IsTrue (has (members now.last_removed) n) → IsTrue (is_at now Removed n) × (in_world now n ≡ false)
+  pub only : (n : Name) → IsTrue (is_removed now n) → IsTrue (has (members now.last_removed) n)
+
+abbrev pub CommitRemovesUnreached : Type 0
+CommitRemovesUnreached = (z : Sizes) (history : List Entry) → Legal z (history ++ done ∷ []) → RemovesUnreached (after history) (after (history ++ done ∷ []))
+
+-- ---- what floats
+
+-- the object that an entry stores in a cell, the root set or a strong pointer
+abbrev pub stored_by : Act → Option Name
+stored_by (act.WriteRef at slot to old) = to
+stored_by (act.Root at true old) = Some at
+stored_by (act.SetStrong h to old) = to
+stored_by _ = None
+
+-- the objects that entries store, in order
+abbrev pub names_stored : List Entry → List Name
+names_stored entries = flat_map (λ e. option_to_list (stored_by e.act)) entries
+
+-- a unit is the last of a walk that begins with the unit of one of these objects
+pub record IsReachedFrom (g : Graph) (names : List Name) (u : List Name) : Type 0 where
+  pub source : Name
+  pub root : List Name
+  pub rest : List (List Name)
+  pub one : IsTrue (has names source)
+  pub unit : IsUnit g root
+  pub member : IsTrue (has root source)
+  pub walk : Walk g root rest u
+
+-- A unit that stands when a collection starts, and still after its commit, was reached at the start, or is reached, by the references of the start, from an object that was stored since.
+abbrev pub FloatingIsBounded : Type 0
+FloatingIsBounded = (z : Sizes) (before during : List Entry) → Legal z ((before ++ started ∷ during) ++ done ∷ []) → NoneDone during
+    → (u : List Name) → IsUnit (graph (after before)) u → IsUnit (graph (after ((before ++ started ∷ during) ++ done ∷ []))) u
+    → IsReached (graph (after before)) u ⊎ IsReachedFrom (graph (after before)) (names_stored during) u
+
+-- So a unit that is reached in neither way is removed by that commit.
+abbrev pub UnreachedIsRemoved : Type 0
+UnreachedIsRemoved = (z : Sizes) (before during : List Entry) → Legal z ((before ++ started ∷ during) ++ done ∷ []) → NoneDone during
+    → (u : List Name) → IsUnit (graph (after before)) u → (IsReached (graph (after before)) u → ⊥) → (IsReachedFrom (graph (after before)) (names_stored during) u → ⊥)
+    → Contains (after ((before ++ started ∷ during) ++ done ∷ [])).last_removed u
+
+-- ---- destruction
+
+abbrev pub begins : Name → Act → Bool
+begins n (act.Begun of) = same_name n of
+begins n _ = false
+
+abbrev pub finishes : Name → Act → Bool
+finishes n (act.Finished of) = same_name n of
+finishes n _ = false
+
+-- how often a history begins an object, and how often it finishes it
+abbrev pub times_begun : List Entry → Name → ℕ
+times_begun history n = count_by (λ e. begins n e.act) history
+
+abbrev pub times_finished : List Entry → Name → ℕ
+times_finished history n = count_by (λ e. finishes n e.act) history
+
+-- An object is begun at most once, finished at most once, and never finished before it is begun.
+abbrev pub DestroyedOnce : Type 0
+DestroyedOnce = (z : Sizes) (history : List Entry) → Legal z history → (n : Name)
+    → (times_begun history n ≤ 1) × (times_finished history n ≤ times_begun history n)
+
+-- so often is the object begun and finished
+pub record WasDestroyed (history : List Entry) (n : Name) (begun finished : ℕ) : Type 0 where
+  pub begun_is : times_begun history n ≡ begun
+  pub finished_is : times_finished history n ≡ finished
+
+-- the stage at which an object is tells how often it was begun and finished
+pub record AgreesWithStage (history : List Entry) (n : Name) : Type 0 where
+  pub unmade : (IsMade (after history) n → ⊥) → WasDestroyed history n 0 0
+  pub living : IsTrue (in_world (after history) n) → WasDestroyed history n 0 0
+  pub removed : IsTrue (is_at (after history) Removed n) → WasDestroyed history n 0 0
+  pub begun : IsTrue (is_at (after history) Begun n) → WasDestroyed history n 1 0
+  pub finished : IsTrue (is_at (after history) Finished n) → WasDestroyed history n 1 1
+  -- it was made, does not live, and is no longer removed
+  pub released : IsMade (after history) n → in_world (after history) n ≡ false → is_removed (after history) n ≡ false → WasDestroyed history n 1 1
+
+abbrev pub DestroyedByStage : Type 0
+DestroyedByStage = (z : Sizes) (history : List Entry) → Legal z history → (n : Name) → AgreesWithStage history n
+
+-- While one object that the last commit removed is not begun, none of them is finished.
+abbrev pub AllBegunFirst : Type 0
+AllBegunFirst = (z : Sizes) (history : List Entry) → Legal z history → (n m : Name)
+    → IsTrue (is_at (after history) Removed n) → IsTrue (has (members (after history).last_removed) m) → times_finished history m ≡ 0
+
+-- So when one is finished, each of them was begun.
+abbrev pub BegunWhenFinished : Type 0
+BegunWhenFinished = (z : Sizes) (history : List Entry) (of : Name) → Legal z (history ++ entry Collector (act.Finished of) ∷ []) → (n : Name)
+    → IsTrue (has (members (after history).last_removed) n) → times_begun history n ≡ 1
+
+-- a release takes one removed unit, whole, and each of its members was begun once and finished once
+pub record ReleasesUnit (history : List Entry) (of : Name) : Type 0 where
+  pub unit : List Name
+  pub is_removed_unit : Contains (after history).last_removed unit
+  pub whole : (n : Name) → IsTrue (has unit n) ↔ IsTrue (has (freed_by (after history) (act.Released of)) n)
+  pub destroyed : (n : Name) → IsTrue (has unit n) → WasDestroyed history n 1 1
+
+abbrev pub ReleasedWhole : Type 0
+ReleasedWhole = (z : Sizes) (history : List Entry) (of : Name) → Legal z (history ++ entry Collector (act.Released of) ∷ []) → ReleasesUnit history of
+
+-- While a collection marks, and so from its start on, every removed object is released.
+abbrev pub ReleasedBeforeStart : Type 0
+ReleasedBeforeStart = (z : Sizes) (history : List Entry) → Legal z history → (after history).phase ≡ Marking → (after history).removals ≡ []
+
+-- ---- weak pointers
+
+-- the history has an entry by which a lane gives the object this pair
+pub record WasGiven (history : List Entry) (n : Name) (pair : Weak) : Type 0 where
+  pub lane : ℕ
+  pub given : Contains history (entry (Lane lane) (act.WeakOf n pair))
+
+-- a pair is one object's, and an object has one pair; it gives its object exactly while that lives, and a pair that was never given gives none
+pub record WeakPointersHold (history : List Entry) : Type 0 where
+  pub one_object : (n m : Name) (pair : Weak) → WasGiven history n pair → WasGiven history m pair → n ≡ m
+  pub one_pair : (n : Name) (pair other : Weak) → WasGiven history n pair → WasGiven history n other → pair ≡ other
+  pub own : (n : Name) (pair : Weak) → WasGiven history n pair → resolved (after history) pair ≡ (if in_world (after history) n then Some n else None)
+  pub never_given : (pair : Weak) → ((n : Name) → WasGiven history n pair → ⊥) → resolved (after history) pair ≡ None
+
+abbrev pub WeakPointers : Type 0
+WeakPointers = (z : Sizes) → IsLawful z → (history : List Entry) → Legal z history → WeakPointersHold history
+
+-- A Resolve gives an object exactly where the pair was given for it and it lives.
+abbrev pub ResolveGives : Type 0
+ResolveGives = (z : Sizes) → IsLawful z → (history : List Entry) (lane : ℕ) (pair : Weak) (got : Option Name) → Legal z (history ++ entry (Lane lane) (act.Resolve pair got) ∷ [])
+    → (n : Name) → (got ≡ Some n) ↔ (WasGiven history n pair × IsTrue (in_world (after history) n))
+
+-- And after its removal, never again.
+abbrev pub ResolveGivesNoneAgain : Type 0
+ResolveGivesNoneAgain = (z : Sizes) → IsLawful z → (before more : List Entry) (n : Name) (pair : Weak) → WasGiven before n pair → in_world (after before) n ≡ false
+    → (lane : ℕ) (got : Option Name) → Legal z ((before ++ more) ++ entry (Lane lane) (act.Resolve pair got) ∷ []) → got ≡ None
+
+-- ---- frames
+
+-- the phase stays, or goes from Gathering to Idle
+abbrev pub PhaseStays : Phase → Phase → Type 0
+PhaseStays old new = (new ≡ old) ⊎ ((old ≡ Gathering) × (new ≡ Idle))
+
+-- the entry closes the frame or slice of this pass
+abbrev pub Closes : Pass → Entry → Type 0
+Closes p e = (e.pass ≡ p) × ((e.act ≡ act.FrameClose) ⊎ ((budget : ℕ) × (reply : Marked) × (e.act ≡ act.Slice budget reply)))
+
+-- what stays while a frame or slice is open: no collection starts and none commits, the phase stays but for the end of gathering, and each object that lives stays so, in its unit
+pub record IsKeptOpen (p : Pass) (before now : World) (during : List Entry) : Type 0 where
+  pub opened : IsTrue (is_open now p)
+  pub starts : count_by (λ e. is_start e.act) during ≡ 0
+  pub commits : count_by (λ e. is_done e.act) during ≡ 0
+  pub phase : PhaseStays before.phase now.phase
+  pub lives : (n : Name) → IsTrue (in_world before n) → IsTrue (in_world now n)
+  pub units : (n : Name) → IsTrue (in_world before n) → unit_of now n ≡ unit_of before n
+
+abbrev pub OpenKeeps : Type 0
+OpenKeeps = (z : Sizes) (before during : List Entry) (p : Pass) → Legal z (before ++ during) → IsTrue (is_open (after before) p)
+    → AllByRecursion (λ e. Closes p e → ⊥) during → IsKeptOpen p (after before) (after (before ++ during)) during
+
+-- what is a lane's own
+pub record IsOwn (lane : ℕ) (old new : State) : Type 0 where
+  pub frame : new.frames lane ≡ old.frames lane
+  pub kinds : new.world.kinds lane ≡ old.world.kinds lane
+  pub strong : (number : ℕ) → new.world.strong lane number ≡ old.world.strong lane number
+  pub drawn_is : drawn new.world lane ≡ drawn old.world lane
+  pub opened : is_open new.world (Lane lane) ≡ is_open old.world (Lane lane)
+
+-- What is a lane's own stays while others act,
+abbrev pub OwnStays : Type 0
+OwnStays = (z : Sizes) (before during : List Entry) (lane : ℕ) → Legal z (before ++ during) → AllByRecursion (λ e. e.pass ≢ Lane lane) during
+    → IsOwn lane (state_of before) (state_of (before ++ during))
+
+-- and this is so from one stretch to the next.
+abbrev pub OwnJoins : Type 0
+OwnJoins = (lane : ℕ) (s t u : State) → IsOwn lane s t → IsOwn lane t u → IsOwn lane s u
+
+-- a pass of the shape that may have a frame or a slice open
+abbrev pub IsActor : Sizes → Pass → Type 0
+IsActor z (Lane lane) = lane < z.lanes
+IsActor z (Marker marker) = marker < z.markers
+IsActor z Collector = ⊥
+
+-- open frames and slices are of lanes and markers of the shape, each once, and so at most as many as there are of these
+pub record AreActors (z : Sizes) (opened : List Pass) : Type 0 where
+  pub actors : (p : Pass) → Contains opened p → IsActor z p
+  pub once : (p : Pass) → count_by (same_pass p) opened ≤ 1
+  pub few : length opened ≤ z.lanes + z.markers
+
+abbrev pub FewOpen : Type 0
+FewOpen = (z : Sizes) (history : List Entry) → Legal z history → AreActors z (after history).opened
+
+-- ---- quotas
+
+-- the free indexes of a lane are its quota less its objects that live or are removed, which are those that were made and not released
+pub record KeepsQuota (z : Sizes) (history : List Entry) (lane : ℕ) : Type 0 where
+  pub free_is : free z (after history) lane + occupied (after history) lane ≡ z.quota
+  pub occupied_is : occupied (after history) lane + count_by (λ n. n.lane == lane) (names_released history) ≡ made (after history) lane
+  pub names : made (after history) lane ≤ z.names
+  pub serials : drawn (after history) lane ≤ z.serials
+
+abbrev pub QuotasHold : Type 0
+QuotasHold = (z : Sizes) (history : List Entry) → Legal z history → (lane : ℕ) → KeepsQuota z history lane
+
+-- no name is given twice, and a name is given exactly where the object was made
+pub record GivesNamesOnce (history : List Entry) : Type 0 where
+  pub once : IsTrue (all_different (names_made history))
+  pub made : (n : Name) → IsTrue (has (names_made history) n) ↔ IsMade (after history) n
+
+abbrev pub NamesOnce : Type 0
+NamesOnce = (z : Sizes) (history : List Entry) → Legal z history → GivesNamesOnce history
+
+-- No serial is given to two objects.
+abbrev pub SerialsOnce : Type 0
+SerialsOnce = (z : Sizes) → IsLawful z → (history : List Entry) → Legal z history → (p q : Pair)
+    → Contains (after history).pairs p → Contains (after history).pairs q → p.weak.serial ≡ q.weak.serial → p ≡ q
+
+-- ---- the headline
+
+-- a collection removes only whole units that no root reaches, each object is begun at most once and then finished at most once, and a weak pointer gives its own object until its removal and nothing after
+pub record Headline (z : Sizes) (history : List Entry) : Type 0 where
+  pub removes : (e : Entry) → Legal z (history ++ e ∷ []) → KeepsOrRemoves (after history) (after (history ++ e ∷ [])) e
+  pub destroys : (n : Name) → (times_begun history n ≤ 1) × (times_finished history n ≤ times_begun history n)
+  pub resolves : (lane : ℕ) (pair : Weak) (got : Option Name) → Legal z (history ++ entry (Lane lane) (act.Resolve pair got) ∷ [])
+      → (n : Name) → (got ≡ Some n) ↔ (WasGiven history n pair × IsTrue (in_world (after history) n))
+
+abbrev pub HeadlineHolds : Type 0
+HeadlineHolds = (z : Sizes) → IsLawful z → (history : List Entry) → Legal z history → Headline z history

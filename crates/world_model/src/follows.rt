@@ -1,0 +1,232 @@
+//! What follows from the rules: laws of every legal history, each the contract of a function that
+//! does nothing.
+ghost use Rattle.world_model.specs.Follows.{
+  HeldLives,
+  NamedLives,
+  LivesAfter,
+  NoneComesBack,
+  UnitsAreSound,
+  EachInOnePlace,
+  BlackRefersToMarked,
+  NoWhiteReached,
+  StartMarksRoots,
+  RootsStayMarked,
+  CommitRuleFollows,
+  ReachedStay,
+  CommitRemovesUnreached,
+  FloatingIsBounded,
+  UnreachedIsRemoved,
+  DestroyedOnce,
+  DestroyedByStage,
+  AllBegunFirst,
+  BegunWhenFinished,
+  ReleasedWhole,
+  ReleasedBeforeStart,
+  WeakPointers,
+  ResolveGives,
+  ResolveGivesNoneAgain,
+  OpenKeeps,
+  OwnStays,
+  OwnJoins,
+  FewOpen,
+  QuotasHold,
+  NamesOnce,
+  SerialsOnce,
+  UnitStays,
+  HeadlineHolds,
+};
+
+/// A collection removes only whole units that no root reaches, each object is begun at most once
+/// and then finished at most once, and a weak pointer gives its own object until its removal and
+/// nothing after.
+pub fn headline()
+    ensures { HeadlineHolds }
+{}
+
+// ---- what lives
+
+/// What a lane holds lives, in every phase, and its frame is open.
+pub fn held_lives()
+    ensures { HeldLives }
+{}
+
+/// What a reference cell of an object that lives names, what is rooted, and what a strong pointer
+/// names lives, in every phase.
+pub fn named_lives()
+    ensures { NamedLives }
+{}
+
+/// After an entry there live the objects that it makes and those that lived before it; after a
+/// commit, of these, those of marked units.
+pub fn lives_after()
+    ensures { LivesAfter }
+{}
+
+/// An object that was made and does not live does not live again.
+pub fn none_comes_back()
+    ensures { NoneComesBack }
+{}
+
+/// As long as an object lives it stays in its unit.
+pub fn unit_stays()
+    ensures { UnitStays }
+{}
+
+/// A name stands in one unit, and once; each unit has a member; and outside marking each unit
+/// counts as marked.
+pub fn units_are_sound()
+    ensures { UnitsAreSound }
+{}
+
+/// An object that was made lives, is removed, or is released, and exactly one of these.
+pub fn each_in_one_place()
+    ensures { EachInOnePlace }
+{}
+
+// ---- marking
+
+/// While a collection marks, a marked unit that is not grey refers to marked units alone: the
+/// tri-colour invariant.
+pub fn black_refers_to_marked()
+    ensures { BlackRefersToMarked }
+{}
+
+/// While a collection marks, where nothing is grey and each root unit is marked, each unit that is
+/// reached is marked.
+pub fn no_white_reached()
+    ensures { NoWhiteReached }
+{}
+
+/// A solo start of a collection marks each root unit.
+pub fn start_marks_roots()
+    ensures { StartMarksRoots }
+{}
+
+/// Where each root unit is marked while a collection marks, each root unit is so until the commit.
+pub fn roots_stay_marked()
+    ensures { RootsStayMarked }
+{}
+
+/// Behind a solo start, where nothing is grey, no white unit is reached.
+pub fn commit_rule_follows()
+    ensures { CommitRuleFollows }
+{}
+
+// ---- removal
+
+/// No entry takes a unit that is reached out of the world; and a unit goes whole, by a commit
+/// alone, to the removed ones.
+pub fn reached_stay()
+    ensures { ReachedStay }
+{}
+
+/// What a commit removes is whole units that lived, and none of them is reached.
+pub fn commit_removes_unreached()
+    ensures { CommitRemovesUnreached }
+{}
+
+/// A unit that stands when a collection starts, and still after its commit, was reached at the
+/// start, or is reached, by the references of the start, from an object that was stored since.
+pub fn floating_is_bounded()
+    ensures { FloatingIsBounded }
+{}
+
+/// A unit that is reached in neither of these ways is removed by that commit.
+pub fn unreached_is_removed()
+    ensures { UnreachedIsRemoved }
+{}
+
+// ---- destruction
+
+/// Each object is begun at most once, finished at most once, and never finished before it is begun.
+pub fn destroyed_once()
+    ensures { DestroyedOnce }
+{}
+
+/// What lives, and what is removed and not begun, was neither begun nor finished; what is begun was
+/// begun once; what is finished, and what is released, was begun once and finished once.
+pub fn destroyed_by_stage()
+    ensures { DestroyedByStage }
+{}
+
+/// While one object that the last commit removed is not begun, none of them is finished.
+pub fn all_begun_first()
+    ensures { AllBegunFirst }
+{}
+
+/// When an object is finished, each object that was removed with it was begun.
+pub fn begun_when_finished()
+    ensures { BegunWhenFinished }
+{}
+
+/// A release takes one removed unit, whole, and each of its members was begun once and finished
+/// once.
+pub fn released_whole()
+    ensures { ReleasedWhole }
+{}
+
+/// While a collection marks, and so from its start on, every removed object is released.
+pub fn released_before_start()
+    ensures { ReleasedBeforeStart }
+{}
+
+// ---- weak pointers
+
+/// A pair of index and serial is given for one object at most, and an object has one; it gives its
+/// object exactly while that lives, and a pair that was never given gives none.
+pub fn weak_pointers()
+    ensures { WeakPointers }
+{}
+
+/// A weak pointer gives an object exactly where it was given for it and the object lives.
+pub fn resolve_gives()
+    ensures { ResolveGives }
+{}
+
+/// A weak pointer whose object does not live never gives anything again.
+pub fn resolve_gives_none_again()
+    ensures { ResolveGivesNoneAgain }
+{}
+
+// ---- frames
+
+/// While a frame or a slice is open no collection starts and none commits, the phase stays, but for
+/// the end of gathering, and each object that lives stays so, in its unit.
+pub fn open_keeps()
+    ensures { OpenKeeps }
+{}
+
+/// Entries of others leave a lane its frame, the kinds of its objects, its strong pointers, the
+/// number of its serials, and whether its frame is open.
+pub fn own_stays()
+    ensures { OwnStays }
+{}
+
+/// What stays a lane's own over two stretches, one behind the other, stays over both.
+pub fn own_joins()
+    ensures { OwnJoins }
+{}
+
+/// What is open are frames of lanes and slices of markers of the shape, each once, so at most as
+/// many as there are lanes and markers.
+pub fn few_open()
+    ensures { FewOpen }
+{}
+
+// ---- quotas
+
+/// The free indexes of a lane are its quota less its objects that are made and not released, and no
+/// lane makes more names or draws more serials than the shape has.
+pub fn quotas_hold()
+    ensures { QuotasHold }
+{}
+
+/// No name is given twice, and what was given is what was made.
+pub fn names_once()
+    ensures { NamesOnce }
+{}
+
+/// No serial is given to two objects.
+pub fn serials_once()
+    ensures { SerialsOnce }
+{}
