@@ -20,7 +20,7 @@ use Rattle.level_script.specs.Context.{start, with_line, with_classes, elements_
 use Rattle.level_script.specs.Frames.{opened_after, fits_spot, fits_target, fits_lane, fits, frames_after, are_framed, IsAtOnce, IsNamed, IsPlayable}
 use Rattle.level_script.specs.Forms.{is_identifier}
 use Rattle.level_script.proofs.Naming.{SaysName, SaysNameIfOk, identifier_bytes, line_says}
-use Rattle.level_script.specs.Lanes.{closed_lane, count_of, bound_new, root_of, bound_var, if_bound, element_in, spot_with, spot_found, Stepped, naming_none, naming, bound_target, set_at, set_in, get_at, get_in, put_at, put_in, take_at, take_in, print_of, open_step, close_step, new_step, root_step, print_step, lane_step, lane_index}
+use Rattle.level_script.specs.Lanes.{closed_lane, count_of, bound_new, root_of, bound_var, if_bound, element_in, spot_with, spot_found, Stepped, naming_none, bound_target, set_at, set_in, get_at, get_in, put_at, put_in, take_at, take_in, print_of, open_step, close_step, new_step, root_step, print_step, lane_step, lane_index}
 use Rattle.level_script.specs.Lines.{input_lines}
 use Rattle.level_script.specs.Names.{number_of_name, number_in, with_name, has_number}
 use Rattle.level_script.specs.Reading.{line_turn, read_from, read_on, fault_at, outcome_of, script_of, script_of_lines}
@@ -40,8 +40,6 @@ use Rattle.level_script.specs.declared.script.Line.{Line}
 use Rattle.level_script.specs.declared.script.Spot.{Spot}
 use Rattle.level_script.specs.declared.said.Place.{Place}
 use Rattle.level_script.specs.declared.said.FieldOf.{FieldOf}
-use Rattle.level_script.specs.declared.word.Number.{Number}
-use Rattle.level_script.specs.declared.word.Number.TheVariants.{Value, OutOfRange}
 use Rattle.level_script.specs.declared.script.Script.{Script}
 use Rattle.level_script.specs.declared.script.Who.{Who}
 use Rattle.level_script.specs.declared.script.Who.TheVariants as who
@@ -295,10 +293,10 @@ module _ (classes : List Class) (lane : LaneNames) (fields : List (List ℕ)) wh
         fit = λ vars count names few some named. and_both _ _ is (spot_fits lane fields place.field spot vars names (spots spot refl) few named);
       })
 
-  put_facts : (place : Place) (value : Number) (o : Option ℕ) (b : Bool) → lane.opened ≡ b → ((element : ℕ) (spot : Spot) → spot_found classes lane fields place element ≡ Some spot → SpotFacts lane fields place.field spot) → Fits (put_in classes lane fields place o value)
+  put_facts : (place : Place) (value : Option ℕ) (o : Option ℕ) (b : Bool) → lane.opened ≡ b → ((element : ℕ) (spot : Spot) → spot_found classes lane fields place element ≡ Some spot → SpotFacts lane fields place.field spot) → Fits (put_in classes lane fields place o value)
   put_facts place value None b is spots done e = err_ok e
-  put_facts place OutOfRange (Some element) b is spots done e = err_ok e
-  put_facts place (Value value) (Some element) b is spots done e = go b is e
+  put_facts place None (Some element) b is spots done e = err_ok e
+  put_facts place (Some value) (Some element) b is spots done e = go b is e
     where
       go : (b : Bool) → lane.opened ≡ b → cond lane.opened (put_at lane fields place.field value (spot_found classes lane fields place element)) (Err cause.Frame) ≡ Ok done → StepFacts classes lane fields done
       go false is e = err_ok (ap (λ (c : Bool). cond c (put_at lane fields place.field value (spot_found classes lane fields place element)) (Err cause.Frame)) (sym is) ∙ e)

@@ -4,3 +4,4 @@ pub mod Tables
 pub mod Turning
 pub mod Naming
 pub mod Framing
+pub mod First

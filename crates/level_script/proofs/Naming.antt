@@ -13,7 +13,6 @@ use Rattle.level_script.specs.declared.said.Does.{Does}
 use Rattle.level_script.specs.declared.said.FieldOf.{FieldOf}
 use Rattle.level_script.specs.declared.said.Said.{Said}
 use Rattle.level_script.specs.declared.said.Said.TheVariants as said
-use Rattle.level_script.specs.declared.word.Number.{Number}
 
 -- ---- bytes of identifiers
 
@@ -78,7 +77,7 @@ class_says : (in_header : Bool) (words : List (List ℕ)) → SaysNameIfOk (clas
 class_says false words = tt
 class_says true words = class_words_say (pair_of words)
 
-field_said_says : (class name : List ℕ) (what : FieldOf) (r : Result (Option Number) Cause) → SaysNameIfOk (field_said class name what r)
+field_said_says : (class name : List ℕ) (what : FieldOf) (r : Result (Option (Option ℕ)) Cause) → SaysNameIfOk (field_said class name what r)
 field_said_says class name what (Ok count) = tt
 field_said_says class name what (Err why) = tt
 
@@ -98,11 +97,11 @@ full_says : (words : List (List ℕ)) → SaysNameIfOk (collector_line words)
 full_says [] = tt
 full_says (word ∷ words) = either (bytes_eq word (codes "full")) (alone said.Full words) (Err cause.UnknownCommand) (either (is_none words) (Ok said.Full) (Err cause.Words) tt tt) tt
 
-of_lane_says : (lane : Number) (r : Result Does Cause) → SaysNameIfOk (of_lane lane r)
+of_lane_says : (lane : Option ℕ) (r : Result Does Cause) → SaysNameIfOk (of_lane lane r)
 of_lane_says lane (Ok what) = tt
 of_lane_says lane (Err why) = tt
 
-lane_says : (lane : Number) (words : List (List ℕ)) → SaysNameIfOk (lane_line lane words)
+lane_says : (lane : Option ℕ) (words : List (List ℕ)) → SaysNameIfOk (lane_line lane words)
 lane_says lane [] = tt
 lane_says lane (word ∷ words) = of_lane_says lane (lane_command word words)
 

@@ -12,7 +12,6 @@ use Rattle.level_script.specs.declared.lanes.LaneNames.{LaneNames}
 use Rattle.level_script.specs.declared.said.Does.{Does}
 use Rattle.level_script.specs.declared.script.Cmd.{Cmd}
 use Rattle.level_script.specs.declared.script.Who.TheVariants as who
-use Rattle.level_script.specs.declared.word.Number.{Number}
 
 -- what a line of a lane leaves
 abbrev after_lane : ℕ → Context → ℕ → List LaneNames → List (List ℕ) → Cmd → Context
@@ -26,7 +25,7 @@ at_ok number c index does new fields command None h = absurd h
 at_ok number c index does new fields command (Some lane) (left, set, step) = ap (with_lane number c index) step ∙ (λ t. Ok (after_lane number c index (sym set t) fields command))
 
 -- a lane that has done what it says makes the line
-pub lane_ok : (number : ℕ) (c : Context) (lane : Number) (does : Does) (index : ℕ) (new : List LaneNames) (fields : List (List ℕ)) (command : Cmd) →
+pub lane_ok : (number : ℕ) (c : Context) (lane : Option ℕ) (does : Does) (index : ℕ) (new : List LaneNames) (fields : List (List ℕ)) (command : Cmd) →
     lane_index (length c.lanes) lane ≡ Some index → StepsAt c.classes.classes c.lanes c.fields index does new fields (Ok command) →
     lane_turn number c lane does ≡ Ok (after_lane number c index new fields command)
 lane_ok number c lane does index new fields command found steps = ap (λ i. lane_of number c i does) found ∙ at_ok number c index does new fields command (slice_get c.lanes index) steps

@@ -3,7 +3,6 @@ use Rattle.std.specs.Prelude.{ℕ, Bool, true, false, List, [], ◌∷◌, codes
 use Rattle.std.specs.Str.{bytes_eq, is_utf8}
 use Rattle.level_script.specs.Lines.{line_words, is_none}
 use Rattle.level_script.specs.Forms.{identifier_of, variable_of, is_digits, number_of, is_comment, spot_of}
-use Rattle.level_script.specs.declared.word.Number.{Number}
 use Rattle.level_script.specs.declared.cause.Cause.{Cause}
 use Rattle.level_script.specs.declared.cause.Cause.TheVariants as cause
 use Rattle.level_script.specs.declared.said.Said.{Said}
@@ -46,7 +45,7 @@ class_line false words = Err cause.UnknownCommand
 class_line true words = class_words (pair_of words)
 
 -- the number of elements at the end of a line, where it says one
-abbrev pub count_of : List (List ℕ) → Result (Option Number) Cause
+abbrev pub count_of : List (List ℕ) → Result (Option (Option ℕ)) Cause
 count_of [] = Ok None
 count_of (word ∷ []) = if is_digits word then Ok (Some (number_of word)) else Err cause.Words
 count_of (word ∷ next ∷ words) = Err cause.Words
@@ -81,7 +80,7 @@ two_names (class ∷ []) = None
 two_names (class ∷ name ∷ words) = both_names (identifier_of class) (identifier_of name) words
 
 -- a field of so many elements
-abbrev pub field_said : List ℕ → List ℕ → FieldOf → Result (Option Number) Cause → Result Said Cause
+abbrev pub field_said : List ℕ → List ℕ → FieldOf → Result (Option (Option ℕ)) Cause → Result Said Cause
 field_said class name what (Ok count) = Ok (said.Field class name what count)
 field_said class name what (Err why) = Err why
 
@@ -213,12 +212,12 @@ lane_command word words =
     else Err cause.UnknownCommand
 
 -- what a lane does
-abbrev pub of_lane : Number → Result Does Cause → Result Said Cause
+abbrev pub of_lane : Option ℕ → Result Does Cause → Result Said Cause
 of_lane lane (Ok what) = Ok (said.Lane lane what)
 of_lane lane (Err why) = Err why
 
 -- a line that begins with a lane
-abbrev pub lane_line : Number → List (List ℕ) → Result Said Cause
+abbrev pub lane_line : Option ℕ → List (List ℕ) → Result Said Cause
 lane_line lane [] = Err cause.UnknownCommand
 lane_line lane (word ∷ words) = of_lane lane (lane_command word words)
 

@@ -1,7 +1,7 @@
 -- What the lines so far have made known, and what one more line adds.
 use Rattle.std.specs.Prelude.{◌≡◌, ℕ, ◌≤◌, nat_le, true, false, ◌&&◌, List, [], ◌∷◌, ◌++◌, map, replicate, length, Option, Some, None, option_map, Result, Ok, Err, slice_get, slice_set, if◌then◌else◌}
 use Rattle.world_model.specs.declared.kind.ClassId.{ClassId}
-use Rattle.class_schema.specs.Class.{Class, Schema, Declaration}
+use Rattle.class_schema.specs.Class.{Class, Schema}
 use Rattle.class_schema.specs.Ancestry.{object}
 use Rattle.class_schema.specs.Table.{find_class, added, field_added}
 use Rattle.class_schema.specs.declared.field.FieldKind.{FieldKind}
@@ -26,8 +26,6 @@ use Rattle.level_script.specs.declared.script.Cmd.TheVariants as cmd
 use Rattle.level_script.specs.declared.script.Script.{Script}
 use Rattle.level_script.specs.declared.script.Who.{Who}
 use Rattle.level_script.specs.declared.script.Who.TheVariants as who
-use Rattle.level_script.specs.declared.word.Number.{Number}
-use Rattle.level_script.specs.declared.word.Number.TheVariants.{Value, OutOfRange}
 
 -- limits in their ranges
 pub record AreLawful (limits : Limits) : Type 0 where
@@ -58,10 +56,10 @@ abbrev pub class_turn : ℕ → Context → List ℕ → List ℕ → Result Con
 class_turn number c name parent = with_classes c (added c.classes number name parent)
 
 -- how many elements a field has: one where the line does not say it, and else 1 to 64
-abbrev pub elements_in : Option Number → Option ℕ
+abbrev pub elements_in : Option (Option ℕ) → Option ℕ
 elements_in None = Some 1
-elements_in (Some (Value number)) = if nat_le 1 number && nat_le number 64 then Some number else None
-elements_in (Some OutOfRange) = None
+elements_in (Some (Some number)) = if nat_le 1 number && nat_le number 64 then Some number else None
+elements_in (Some None) = None
 
 -- what the elements of a field are, if the class of references is known
 abbrev pub kind_found : List Class → FieldOf → Option FieldKind
@@ -80,7 +78,7 @@ field_counted number c class name what None = Err cause.Number
 field_counted number c class name what (Some count) = field_known number c name count (find_class c.classes.classes class) (kind_found c.classes.classes what)
 
 -- a line of the header that tells a field
-abbrev pub field_turn : ℕ → Context → List ℕ → List ℕ → FieldOf → Option Number → Result Context Cause
+abbrev pub field_turn : ℕ → Context → List ℕ → List ℕ → FieldOf → Option (Option ℕ) → Result Context Cause
 field_turn number c class name what count = field_counted number c class name what (elements_in count)
 
 -- what a lane's line leaves, and the line
@@ -99,7 +97,7 @@ lane_of number c None does = Err cause.Number
 lane_of number c (Some index) does = lane_at number c index (slice_get c.lanes index) does
 
 -- a line of a lane; a number that names no lane is out of its range
-abbrev pub lane_turn : ℕ → Context → Number → Does → Result Context Cause
+abbrev pub lane_turn : ℕ → Context → Option ℕ → Does → Result Context Cause
 lane_turn number c lane does = lane_of number c (lane_index (length c.lanes) lane) does
 
 -- what is known after a line that says this, or what is wrong with it

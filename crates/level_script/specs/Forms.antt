@@ -4,8 +4,6 @@ use Rattle.std.specs.List.{list_all}
 use Rattle.std.specs.Str.{bytes_eq}
 use Rattle.std.specs.Char.{is_ascii_digit, is_ascii_alphabetic}
 use Rattle.std.specs.Int.Digits.{number_from_digits}
-use Rattle.level_script.specs.declared.word.Number.{Number}
-use Rattle.level_script.specs.declared.word.Number.TheVariants.{Value, OutOfRange}
 use Rattle.level_script.specs.declared.said.Place.{Place}
 
 -- an ASCII letter or `_`
@@ -37,9 +35,9 @@ is_digits word = list_all is_ascii_digit word
 abbrev pub written : List ℕ → ℕ
 written digits = number_from_digits 10 (map (λ b. b - 48) digits)
 
--- the number of a word of digits: at most 20 of them, and below 2^64
-abbrev pub number_of : List ℕ → Number
-number_of digits = if nat_le (length digits) 20 && nat_lt (written digits) (2 ^ 64) then Value (written digits) else OutOfRange
+-- the number of a word of digits: at most 20 of them, and below 2^64; else it is out of its range
+abbrev pub number_of : List ℕ → Option ℕ
+number_of digits = if nat_le (length digits) 20 && nat_lt (written digits) (2 ^ 64) then Some (written digits) else None
 
 -- a line whose first word begins so does nothing
 abbrev pub is_comment : List ℕ → Bool
@@ -53,14 +51,14 @@ abbrev pub place_of : ℕ → List ℕ → Option ℕ
 place_of byte word = position (λ b. b == byte) word
 
 -- the number in front of a last `]`
-abbrev pub bracketed : List ℕ → Option Number
+abbrev pub bracketed : List ℕ → Option (Option ℕ)
 bracketed word =
     if slice_index word (length word - 1) == 93 && nat_lt 1 (length word) && is_digits (take (length word - 1) word)
     then Some (number_of (take (length word - 1) word))
     else None
 
 -- an element of a field of a variable, if all of them are there
-abbrev pub placed : Option (List ℕ) → Option (List ℕ) → Option Number → Option Place
+abbrev pub placed : Option (List ℕ) → Option (List ℕ) → Option (Option ℕ) → Option Place
 placed (Some var) (Some field) (Some element) = Some (record { var = var; field = field; element = element })
 placed (Some var) (Some field) None = None
 placed (Some var) None element = None
@@ -68,7 +66,7 @@ placed None field element = None
 
 -- the field and the element behind the dot: the element is 0 where there is no bracket
 abbrev pub field_at : Option (List ℕ) → List ℕ → Option ℕ → Option Place
-field_at var word None = placed var (identifier_of word) (Some (Value 0))
+field_at var word None = placed var (identifier_of word) (Some (Some 0))
 field_at var word (Some at) = placed var (identifier_of (take at word)) (bracketed (drop (at + 1) word))
 
 -- what stands before and behind the dot

@@ -15,8 +15,6 @@ use Rattle.level_script.specs.declared.said.Place.{Place}
 use Rattle.level_script.specs.declared.script.Spot.{Spot}
 use Rattle.level_script.specs.declared.script.Cmd.{Cmd}
 use Rattle.level_script.specs.declared.script.Cmd.TheVariants as cmd
-use Rattle.level_script.specs.declared.word.Number.{Number}
-use Rattle.level_script.specs.declared.word.Number.TheVariants.{Value, OutOfRange}
 
 -- a lane whose frame was never open
 abbrev pub closed_lane : LaneNames
@@ -66,9 +64,9 @@ root_step lane var on = if lane.opened then root_of lane on (bound_var lane var)
 -- ---- elements of fields
 
 -- the number of an element, below 2^32
-abbrev pub element_in : Number → Option ℕ
-element_in (Value number) = if nat_lt number 4294967296 then Some number else None
-element_in OutOfRange = None
+abbrev pub element_in : Option ℕ → Option ℕ
+element_in (Some number) = if nat_lt number 4294967296 then Some number else None
+element_in None = None
 
 -- the element of a variable that has this number, in a field of this name
 abbrev pub spot_with : List (List ℕ) → List ℕ → ℕ → Bool → Option ℕ → Option Spot
@@ -132,12 +130,12 @@ abbrev pub put_at : LaneNames → List (List ℕ) → List ℕ → ℕ → Optio
 put_at lane fields name value None = Err cause.UnknownName
 put_at lane fields name value (Some spot) = Ok (naming fields name lane (cmd.Put spot value))
 
-abbrev pub put_in : List Class → LaneNames → List (List ℕ) → Place → Option ℕ → Number → Result Stepped Cause
+abbrev pub put_in : List Class → LaneNames → List (List ℕ) → Place → Option ℕ → Option ℕ → Result Stepped Cause
 put_in classes lane fields place None value = Err cause.Number
-put_in classes lane fields place (Some element) OutOfRange = Err cause.Number
-put_in classes lane fields place (Some element) (Value value) = if lane.opened then put_at lane fields place.field value (spot_found classes lane fields place element) else Err cause.Frame
+put_in classes lane fields place (Some element) None = Err cause.Number
+put_in classes lane fields place (Some element) (Some value) = if lane.opened then put_at lane fields place.field value (spot_found classes lane fields place element) else Err cause.Frame
 
-abbrev pub put_step : List Class → LaneNames → List (List ℕ) → Place → Number → Result Stepped Cause
+abbrev pub put_step : List Class → LaneNames → List (List ℕ) → Place → Option ℕ → Result Stepped Cause
 put_step classes lane fields place value = put_in classes lane fields place (element_in place.element) value
 
 -- the number in an element is told
@@ -175,9 +173,9 @@ lane_step classes lane fields (does.Take place) = take_step classes lane fields 
 lane_step classes lane fields (does.Print var) = naming_none fields (print_step lane var)
 
 -- the lane that a number names
-abbrev pub lane_index : ℕ → Number → Option ℕ
-lane_index count (Value number) = if nat_lt number count then Some number else None
-lane_index count OutOfRange = None
+abbrev pub lane_index : ℕ → Option ℕ → Option ℕ
+lane_index count (Some number) = if nat_lt number count then Some number else None
+lane_index count None = None
 
 -- the answer is what is wanted, and so is the lane that is left; there may be no memory for it
 abbrev pub Steps : Result (LaneNames × Cmd) Cause → LaneNames → Result Cmd Stop → Type 0

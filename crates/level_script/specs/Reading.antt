@@ -1,5 +1,5 @@
 -- What an input is: a script, or a fault.
-use Rattle.std.specs.Prelude.{◌≡◌, ℕ, ◌+◌, nat_lt, List, [], ◌∷◌, length, Option, Some, None, Result, Ok, Err, if◌then◌else◌}
+use Rattle.std.specs.Prelude.{◌≡◌, ℕ, ◌+◌, ◌-◌, ◌<◌, ◌≤◌, ◌⊎◌, ◌↔◌, nat_lt, List, [], ◌∷◌, length, Option, Some, None, Result, Ok, Err, take, slice_index_or, if◌then◌else◌}
 use Rattle.std.specs.Result.{result_ok, result_err}
 use Rattle.level_script.specs.Lines.{input_lines}
 use Rattle.level_script.specs.Context.{start, turn, script_from}
@@ -81,3 +81,19 @@ OneOf (Some a) (Some b) = ⊥
 -- each input is a script, or has a first fault, and not both
 abbrev pub OneOutcome : Type 0
 OneOutcome = (bytes : List ℕ) (limits : Limits) → OneOf (script_of bytes limits) (fault_of bytes limits)
+
+-- a line of these has the cause, and the lines before it are read
+pub record IsFirstFault (limits : Limits) (lines : List (List ℕ)) (fault : ScriptErr) : Type 0 where
+  pub from_1 : 1 ≤ fault.line
+  pub there : fault.line ≤ length lines
+  pub before : Context
+  pub read : read_from 1 (start limits) (take (fault.line - 1) lines) ≡ Ok before
+  pub faulty : line_turn fault.line before (slice_index_or lines (fault.line - 1) []) ≡ Err fault.cause
+
+-- an input that is too long has that fault, and each other the first of its lines
+abbrev pub HasFault : List ℕ → Limits → ScriptErr → Type 0
+HasFault bytes limits fault = ((16777216 < length bytes) × (fault ≡ fault_at 0 cause.TooLong)) ⊎ ((length bytes ≤ 16777216) × IsFirstFault limits (input_lines bytes) fault)
+
+-- the fault of an input is the first that it has
+abbrev pub FirstFault : Type 0
+FirstFault = (bytes : List ℕ) (limits : Limits) (fault : ScriptErr) → (fault_of bytes limits ≡ Some fault) ↔ HasFault bytes limits fault

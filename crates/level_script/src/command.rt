@@ -1,7 +1,7 @@
 //! The words of a line, one level of the grammar a function.
 ghost use Rattle.std.specs.Prelude.{◌≡◌, MatchOption, Some, None};
 ghost use Rattle.level_script.specs.Lines.{line_words};
-ghost use Rattle.level_script.specs.Commands.{pair_of, only_of, alone, class_line, count_of, field_of, two_names, field_line, collector_line, new_command, switch_of, root_command, target_of, set_command, get_command, put_command, take_command, print_command, lane_command, lane_line, said_by_words, said_by_line};
+ghost use Rattle.level_script.specs.Commands.{pair_of, only_of, alone, class_line, count_of, field_of, two_names, field_line, collector_line, new_command, switch_of, root_command, target_of, set_command, get_command, put_command, take_command, print_command, lane_command, of_lane, lane_line, said_by_words, said_by_line};
 
 use crate::cause::Cause;
 use crate::lines::{first_word, is_over};
@@ -129,8 +129,8 @@ fn collector_line<'a>(rest: &'a [u8]) -> Result<Said<'a>, Cause>
     }
 }
 
-fn new_command<'a>(rest: &'a [u8]) -> Result<Does<'a>, Cause>
-    ensures { result ≡ new_command (pair_of (line_words rest.now)) }
+fn new_command<'a>(lane: Number, rest: &'a [u8]) -> Result<Said<'a>, Cause>
+    ensures { result ≡ of_lane lane (new_command (pair_of (line_words rest.now))) }
 {
     let Some((var, class)) = pair(rest) else {
         return Err(Cause::Words);
@@ -141,7 +141,10 @@ fn new_command<'a>(rest: &'a [u8]) -> Result<Does<'a>, Cause>
     let Some(class) = read_identifier(class) else {
         return Err(Cause::Words);
     };
-    Ok(Does::New { var, class })
+    Ok(Said::Lane {
+        lane,
+        does: Does::New { var, class },
+    })
 }
 
 // True for `on`, false for `off`.
@@ -157,8 +160,8 @@ fn read_switch(word: &[u8]) -> Option<bool>
     }
 }
 
-fn root_command<'a>(rest: &'a [u8]) -> Result<Does<'a>, Cause>
-    ensures { result ≡ root_command (pair_of (line_words rest.now)) }
+fn root_command<'a>(lane: Number, rest: &'a [u8]) -> Result<Said<'a>, Cause>
+    ensures { result ≡ of_lane lane (root_command (pair_of (line_words rest.now))) }
 {
     let Some((var, on)) = pair(rest) else {
         return Err(Cause::Words);
@@ -169,7 +172,10 @@ fn root_command<'a>(rest: &'a [u8]) -> Result<Does<'a>, Cause>
     let Some(on) = read_switch(on) else {
         return Err(Cause::Words);
     };
-    Ok(Does::Root { var, on })
+    Ok(Said::Lane {
+        lane,
+        does: Does::Root { var, on },
+    })
 }
 
 // The variable whose object is stored, or none.
@@ -183,8 +189,8 @@ fn read_target<'a>(word: &'a [u8]) -> Option<Option<Identifier<'a>>>
     }
 }
 
-fn set_command<'a>(rest: &'a [u8]) -> Result<Does<'a>, Cause>
-    ensures { result ≡ set_command (pair_of (line_words rest.now)) }
+fn set_command<'a>(lane: Number, rest: &'a [u8]) -> Result<Said<'a>, Cause>
+    ensures { result ≡ of_lane lane (set_command (pair_of (line_words rest.now))) }
 {
     let Some((spot, to)) = pair(rest) else {
         return Err(Cause::Words);
@@ -195,11 +201,14 @@ fn set_command<'a>(rest: &'a [u8]) -> Result<Does<'a>, Cause>
     let Some(to) = read_target(to) else {
         return Err(Cause::Words);
     };
-    Ok(Does::Set { place, to })
+    Ok(Said::Lane {
+        lane,
+        does: Does::Set { place, to },
+    })
 }
 
-fn get_command<'a>(rest: &'a [u8]) -> Result<Does<'a>, Cause>
-    ensures { result ≡ get_command (pair_of (line_words rest.now)) }
+fn get_command<'a>(lane: Number, rest: &'a [u8]) -> Result<Said<'a>, Cause>
+    ensures { result ≡ of_lane lane (get_command (pair_of (line_words rest.now))) }
 {
     let Some((var, spot)) = pair(rest) else {
         return Err(Cause::Words);
@@ -210,11 +219,14 @@ fn get_command<'a>(rest: &'a [u8]) -> Result<Does<'a>, Cause>
     let Some(place) = read_spot(spot) else {
         return Err(Cause::Words);
     };
-    Ok(Does::Get { var, place })
+    Ok(Said::Lane {
+        lane,
+        does: Does::Get { var, place },
+    })
 }
 
-fn put_command<'a>(rest: &'a [u8]) -> Result<Does<'a>, Cause>
-    ensures { result ≡ put_command (pair_of (line_words rest.now)) }
+fn put_command<'a>(lane: Number, rest: &'a [u8]) -> Result<Said<'a>, Cause>
+    ensures { result ≡ of_lane lane (put_command (pair_of (line_words rest.now))) }
 {
     let Some((spot, value)) = pair(rest) else {
         return Err(Cause::Words);
@@ -223,71 +235,78 @@ fn put_command<'a>(rest: &'a [u8]) -> Result<Does<'a>, Cause>
         return Err(Cause::Words);
     };
     if is_digits(value) {
-        Ok(Does::Put {
-            place,
-            value: read_number(value),
+        let value = read_number(value);
+        Ok(Said::Lane {
+            lane,
+            does: Does::Put { place, value },
         })
     } else {
         Err(Cause::Words)
     }
 }
 
-fn take_command<'a>(rest: &'a [u8]) -> Result<Does<'a>, Cause>
-    ensures { result ≡ take_command (only_of (line_words rest.now)) }
+fn take_command<'a>(lane: Number, rest: &'a [u8]) -> Result<Said<'a>, Cause>
+    ensures { result ≡ of_lane lane (take_command (only_of (line_words rest.now))) }
 {
     let Some(spot) = only(rest) else {
         return Err(Cause::Words);
     };
     match read_spot(spot) {
-        Some(place) => Ok(Does::Take { place }),
+        Some(place) => Ok(Said::Lane {
+            lane,
+            does: Does::Take { place },
+        }),
         None => Err(Cause::Words),
     }
 }
 
-fn print_command<'a>(rest: &'a [u8]) -> Result<Does<'a>, Cause>
-    ensures { result ≡ print_command (only_of (line_words rest.now)) }
+fn print_command<'a>(lane: Number, rest: &'a [u8]) -> Result<Said<'a>, Cause>
+    ensures { result ≡ of_lane lane (print_command (only_of (line_words rest.now))) }
 {
     let Some(var) = only(rest) else {
         return Err(Cause::Words);
     };
     match read_variable(var) {
-        Some(var) => Ok(Does::Print { var }),
+        Some(var) => Ok(Said::Lane {
+            lane,
+            does: Does::Print { var },
+        }),
         None => Err(Cause::Words),
     }
 }
 
 // A command of one word.
-fn alone<'a>(does: Does<'a>, rest: &[u8]) -> Result<Does<'a>, Cause>
-    ensures { result ≡ alone does.entry (line_words rest.now) }
+fn alone<'a>(lane: Number, does: Does<'a>, rest: &[u8]) -> Result<Said<'a>, Cause>
+    ensures { result ≡ of_lane lane (alone does.entry (line_words rest.now)) }
 {
     if is_over(rest) {
-        Ok(does)
+        Ok(Said::Lane { lane, does })
     } else {
         Err(Cause::Words)
     }
 }
 
-fn lane_command<'a>(word: &[u8], rest: &'a [u8]) -> Result<Does<'a>, Cause>
-    ensures { result ≡ lane_command word.now (line_words rest.now) }
+fn lane_command<'a>(lane: Number, word: &[u8], rest: &'a [u8]) -> Result<Said<'a>, Cause>
+    ensures { result ≡ of_lane lane (lane_command word.now (line_words rest.now)) }
 {
     if word == b"open".as_slice() {
-        alone(Does::Open, rest)
+        alone(lane, Does::Open, rest)
     } else if word == b"close".as_slice() {
-        alone(Does::Close, rest)
+        alone(lane, Does::Close, rest)
     } else if word == b"new".as_slice() {
-        new_command(rest)
+        new_command(lane, rest)
     } else if word == b"root".as_slice() {
-        root_command(rest)
+        root_command(lane, rest)
     } else if word == b"set".as_slice() {
-        set_command(rest)
+        set_command(lane, rest)
     } else if word == b"get".as_slice() {
-        get_command(rest)
+        get_command(lane, rest)
     } else if word == b"put".as_slice() {
-        put_command(rest)
+        put_command(lane, rest)
     } else if word == b"take".as_slice() {
-        take_command(rest)
+        take_command(lane, rest)
     } else if word == b"print".as_slice() {
-        print_command(rest)
+        print_command(lane, rest)
     } else {
         Err(Cause::UnknownCommand)
     }
@@ -299,10 +318,7 @@ fn lane_line<'a>(lane: Number, rest: &'a [u8]) -> Result<Said<'a>, Cause>
     let Some((word, rest)) = first_word(rest) else {
         return Err(Cause::UnknownCommand);
     };
-    match lane_command(word, rest) {
-        Ok(does) => Ok(Said::Lane { lane, does }),
-        Err(cause) => Err(cause),
-    }
+    lane_command(lane, word, rest)
 }
 
 fn said_by_words<'a>(in_header: bool, line: &'a [u8]) -> Result<Said<'a>, Cause>

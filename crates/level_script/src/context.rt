@@ -20,10 +20,12 @@ fn elements_in(count: &Option<Number>) -> Option<u32>
     ensures some { IfSome result (λ n. 1 ≤ n) }
     ensures few { IfSome result (λ n. n ≤ 64) }
 {
-    match *count {
-        None => Some(1),
-        Some(Number::Value(value)) if 1 <= value && value <= 64 => Some(value as u32),
-        Some(_) => None,
+    let Some(count) = count else {
+        return Some(1);
+    };
+    match count.get() {
+        Some(value) if 1 <= value && value <= 64 => Some(value as u32),
+        _ => None,
     }
 }
 
@@ -162,9 +164,9 @@ impl Context {
     pub fn read(&mut self, number: u32, line: &[u8]) -> Result<(), Stop>
         ensures { Turns (turn number self.old line.now) self.new result }
     {
-        match read_line(self.in_header, line) {
-            Ok(said) => self.act(number, &said),
-            Err(cause) => Err(Stop::Faulty(cause)),
+        match &read_line(self.in_header, line) {
+            Ok(said) => self.act(number, said),
+            Err(cause) => Err(Stop::Faulty(*cause)),
         }
     }
 

@@ -15,8 +15,8 @@ use std::marker::Model;
 fn element_in(number: &Number) -> Option<u32>
     ensures { result ≡ element_in number.now }
 {
-    match *number {
-        Number::Value(value) if value < 4294967296 => Some(value as u32),
+    match number.get() {
+        Some(value) if value < 4294967296 => Some(value as u32),
         _ => None,
     }
 }
@@ -207,7 +207,7 @@ impl LaneNames {
         let Some(element) = element_in(&place.element) else {
             return Err(Stop::Faulty(Cause::Number));
         };
-        let Number::Value(value) = *value else {
+        let Some(value) = value.get() else {
             return Err(Stop::Faulty(Cause::Number));
         };
         if !self.opened {
@@ -310,15 +310,9 @@ impl Lanes {
     pub fn find(&self, lane: &Number) -> Option<u32>
         ensures { result ≡ lane_index (length self.now) lane.now }
     {
-        match *lane {
-            Number::Value(value) => {
-                if value < self.items.len() as u64 {
-                    Some(value as u32)
-                } else {
-                    None
-                }
-            }
-            Number::OutOfRange => None,
+        match lane.get() {
+            Some(value) if value < self.items.len() as u64 => Some(value as u32),
+            _ => None,
         }
     }
 

@@ -11,8 +11,8 @@
 //!
 //! The layer above calls `parse`, which answers exactly the script, or exactly the first faulty line
 //! with its first cause, and gets from its contract that the script's lines can be played: each
-//! lane, variable, class and field name is there, and each frame is open or closed as its line needs
-//! it.
+//! lane, variable, class and field name is there, each frame is open or closed as its line needs it,
+//! and each class has an identifier as its name.
 #![tactic(auto)]
 
 mod cause;
@@ -35,5 +35,9 @@ pub use limits::Limits;
 pub use reader::parse;
 pub use script::{Cmd, Counts, FieldNames, Line, Lines, Script, Spot, Who};
 
+#[cfg(test)]
+mod fault_tests;
+#[cfg(test)]
+mod field_tests;
 #[cfg(test)]
 mod tests;

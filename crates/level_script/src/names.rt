@@ -72,6 +72,9 @@ impl NameTable {
         ensures number { IfOk result (λ number. number ≡ number_in self.old name.now) }
         ensures names { OnOk result (self.new ≡ with_name self.old name.now) }
     {
+        if let Some(number) = self.find(name) {
+            return Ok(number);
+        }
         let key = String::from_str(self.alloc, name)?;
         if self.names.len() >= MOST {
             return Err(AllocError);

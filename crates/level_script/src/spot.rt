@@ -34,7 +34,7 @@ fn field_at<'a>(var: Identifier<'a>, word: &'a [u8]) -> Option<Place<'a>>
         return Some(Place {
             var,
             field,
-            element: Number::Value(0),
+            element: Number::new(0),
         });
     };
     let field = read_identifier(&word[..at])?;

@@ -2,12 +2,12 @@
 use crate::cause::{Cause, ParseErr, ScriptErr};
 use crate::limits::Limits;
 use crate::reader::parse;
-use crate::script::{Cmd, Line, Script, Who};
+use crate::script::{Cmd, Line, Script, Spot, Who};
 use class_schema::SchemaErr;
 use std::alloc::Global;
 use world_model::ClassId;
 
-fn read(alloc: Global, bytes: &[u8]) -> Result<Script, ParseErr> {
+pub(crate) fn read(alloc: Global, bytes: &[u8]) -> Result<Script, ParseErr> {
     let limits = Limits {
         lanes: 4,
         slots: 12,
@@ -17,7 +17,7 @@ fn read(alloc: Global, bytes: &[u8]) -> Result<Script, ParseErr> {
     parse(alloc, bytes, limits)
 }
 
-fn is_fault(alloc: Global, bytes: &[u8], line: u32, cause: Cause) -> bool {
+pub(crate) fn is_fault(alloc: Global, bytes: &[u8], line: u32, cause: Cause) -> bool {
     match read(alloc, bytes) {
         Err(ParseErr::Bad(fault)) => fault == ScriptErr { line, cause },
         _ => false,
@@ -25,7 +25,7 @@ fn is_fault(alloc: Global, bytes: &[u8], line: u32, cause: Cause) -> bool {
 }
 
 // The first input that has not this fault, at the line beside it.
-fn other<'a>(alloc: Global, inputs: &[(&'a str, u32)], cause: Cause) -> Option<&'a str> {
+pub(crate) fn other<'a>(alloc: Global, inputs: &[(&'a str, u32)], cause: Cause) -> Option<&'a str> {
     for (text, line) in inputs {
         if !is_fault(alloc, text.as_bytes(), *line, cause) {
             return Some(*text);
@@ -34,7 +34,7 @@ fn other<'a>(alloc: Global, inputs: &[(&'a str, u32)], cause: Cause) -> Option<&
     None
 }
 
-const SMALLEST: [Line; 5] = [
+pub(crate) const SMALLEST: [Line; 5] = [
     Line {
         number: 2,
         who: Who::Lane(0),
@@ -78,11 +78,19 @@ fn is_smallest(alloc: Global, text: &str) -> bool {
     }
 }
 
-fn lane_line(number: u32, lane: u32, cmd: Cmd) -> Line {
+pub(crate) fn lane_line(number: u32, lane: u32, cmd: Cmd) -> Line {
     Line {
         number,
         who: Who::Lane(lane),
         cmd,
+    }
+}
+
+pub(crate) fn spot(var: u32, field: u32, element: u32) -> Spot {
+    Spot {
+        var,
+        field,
+        element,
     }
 }
 
@@ -92,14 +100,14 @@ fn object_line(number: u32, lane: u32, var: u32) -> Line {
     lane_line(number, lane, Cmd::New { var, class })
 }
 
-fn is_script(alloc: Global, bytes: &[u8], lines: &[Line], vars: &[u32]) -> bool {
+pub(crate) fn is_script(alloc: Global, bytes: &[u8], lines: &[Line], vars: &[u32]) -> bool {
     match read(alloc, bytes) {
         Ok(script) => script.lines.as_slice() == lines && script.vars.as_slice() == vars,
         Err(_) => false,
     }
 }
 
-fn is_empty(alloc: Global, bytes: &[u8]) -> bool {
+pub(crate) fn is_empty(alloc: Global, bytes: &[u8]) -> bool {
     match read(alloc, bytes) {
         Ok(script) => script.lines.as_slice().is_empty(),
         Err(_) => false,
@@ -184,10 +192,8 @@ fn unknown_commands(rt: HostRuntime) {
         ("gc", 1),
         ("gc open", 1),
         ("0 class A Object", 1),
-        ("field A x int", 1),
         ("0 open\nclass A Object", 2),
         ("0 open\nclass A", 2),
-        ("0 open\n0 set a.f b", 2),
         ("0 off a", 1),
         ("9 roots a on", 1),
     ];
@@ -254,6 +260,8 @@ fn faults_of_numbers_frames_and_names(rt: HostRuntime) {
     ];
     assert!(rt; other(alloc, &frames, Cause::Frame).is_none());
     let names = [
+        ("field A x int", 1),
+        ("0 open\n0 set a.f b", 2),
         ("0 open\n0 root a on", 2),
         ("0 open\n0 root a off", 2),
         ("0 open\n0 new a B\n0 root a on", 2),

@@ -5,12 +5,54 @@ ghost use Rattle.level_script.specs.Forms.{begins_identifier, continues_identifi
 
 use std::marker::Model;
 
-/// A number as a word writes it.
-#[derive(Clone, Copy, Debug, PartialEq, Eq)]
-pub enum Number {
-    Value(u64),
-    /// More than 20 digits, or 2^64 and more.
-    OutOfRange,
+/// A number as a word writes it. Contracts see it as the number, and as none where it has more than
+/// 20 digits or is 2^64 or more. It has two plain fields, and is no enum, because it is moved often
+/// and then is copied more cheaply.
+#[derive(Drop)]
+pub struct Number {
+    value: u64,
+    is_out_of_range: bool,
+}
+
+impl Model for Number {
+    ghost use Rattle.std.specs.Prelude.{ℕ, Option, Some, None, if◌then◌else◌};
+
+    ghost Value = { Option ℕ };
+
+    ghost view = { λ n. if n.is_out_of_range then None else Some n.value };
+}
+
+impl Number {
+    /// A number that is in its range.
+    pub fn new(value: u64) -> Number
+        ensures { result ≡ Some value }
+    {
+        Number {
+            value,
+            is_out_of_range: false,
+        }
+    }
+
+    // One that is not.
+    fn out_of_range() -> Number
+        ensures { result ≡ None }
+    {
+        Number {
+            value: 0,
+            is_out_of_range: true,
+        }
+    }
+
+    /// The number, where it is in its range.
+    pub fn get(&self) -> Option<u64>
+        ensures { result ≡ self.now }
+    {
+        if self.is_out_of_range {
+            None
+        } else {
+            Some(self.value)
+        }
+    }
 }
 
 /// An identifier in a line. Contracts see it as its bytes.
@@ -69,10 +111,9 @@ pub fn read_identifier<'a>(word: &'a [u8]) -> Option<Identifier<'a>>
     if !is_identifier(word) {
         return None;
     }
-    match str::from_utf8(word) {
-        Ok(text) => Some(Identifier { text }),
-        Err(_) => None,
-    }
+    // Each byte of an identifier is ASCII.
+    let text = unsafe { str::from_utf8_unchecked(word) };
+    Some(Identifier { text })
 }
 
 /// The identifier of a variable that a word is.
@@ -112,13 +153,13 @@ pub fn read_number(digits: &[u8]) -> Number
     ensures { result ≡ number_of digits.now }
 {
     if digits.len() > 20 {
-        return Number::OutOfRange;
+        return Number::out_of_range();
     }
     let value = written(digits);
     if value < 1 << 64 {
-        Number::Value(value as u64)
+        Number::new(value as u64)
     } else {
-        Number::OutOfRange
+        Number::out_of_range()
     }
 }
 

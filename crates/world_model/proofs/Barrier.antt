@@ -19,7 +19,7 @@ use Rattle.world_model.specs.LaneSteps.{IsWhite, WritesRef, SetsStrong, SetsRoot
 use Rattle.world_model.specs.MarkerSteps.{Scans}
 use Rattle.world_model.specs.CollectorSteps.{Commits}
 use Rattle.world_model.specs.Histories.{MayBy, May, Legal, state_of}
-use Rattle.world_model.specs.Follows.{IsMade, made_by}
+use Rattle.world_model.specs.Follows.{IsMade, is_done, made_by}
 use Rattle.world_model.proofs.ListFacts.{and_true, or_true, or_right, any_filter, Among, among_append, among_filter, among_filter_test, filter_among, test_among, among_test, among_contains}
 use Rattle.world_model.proofs.NameFacts.{same_name_true, found_unit, any_more, has_among, among_has}
 use Rattle.world_model.proofs.Reaches.{reach_by_walks_holds}
@@ -30,12 +30,8 @@ use Rattle.world_model.proofs.Sound.{IsSound, sound, made_living, made_stays, is
 
 -- ---- what lives
 
-abbrev pub commits : Act → Bool
-commits (act.CommitGc commit.Done) = true
-commits _ = false
-
 -- what lives stays, but for a commit
-pub living_stays : (s : State) (p : Pass) (a : Act) (n : Name) → commits a ≡ false → in_world s.world n ≡ true → in_world (next_world s.marks s.world p a) n ≡ true
+pub living_stays : (s : State) (p : Pass) (a : Act) (n : Name) → is_done a ≡ false → in_world s.world n ≡ true → in_world (next_world s.marks s.world p a) n ≡ true
 living_stays s p (act.Make kinds first) n other h = list_any-append (λ u. has u n) s.world.units _ ∙ or_left (in_world s.world n) _ h
 living_stays s p (act.BeginGc begin.Started) n other h = h
 living_stays s p (act.CommitGc commit.Done) n other h = absurd cc
@@ -503,11 +499,11 @@ own_holding z s lane a may named h n e = (go (or_true _ _ (sym (list_any-append 
     go (inl new) = all_members_live (next_world s.marks s.world (Lane lane) a) (given lane a) (given_lives z s lane a may named h) n new
     go (inr old) = living_stays s (Lane lane) a n refl (h.lives lane n old)
 
-by_no_lane : (z : Sizes) (s : State) (lane : ℕ) (a : Act) → MayBy z s (Lane lane) a → commits a ≡ false
+by_no_lane : (z : Sizes) (s : State) (lane : ℕ) (a : Act) → MayBy z s (Lane lane) a → is_done a ≡ false
 by_no_lane z s lane (act.CommitGc reply) may = absurd may.may
 by_no_lane z s lane _ may = refl
 
-by_no_marker : (z : Sizes) (s : State) (marker : ℕ) (a : Act) → MayBy z s (Marker marker) a → commits a ≡ false
+by_no_marker : (z : Sizes) (s : State) (marker : ℕ) (a : Act) → MayBy z s (Marker marker) a → is_done a ≡ false
 by_no_marker z s marker (act.CommitGc reply) may = absurd may.may
 by_no_marker z s marker _ may = refl
 

@@ -60,7 +60,7 @@ none_to_begin w h gathered none n = false_from_ne_true _ (λ is.
 
 -- ---- a commit
 
-among_new : (ns : List Name) (r : Removal) → Among (map (λ n. record { name = n; stage = Removed; polls = 0 }) ns) r → r.stage ≡ Removed
+pub among_new : (ns : List Name) (r : Removal) → Among (map (λ n. record { name = n; stage = Removed; polls = 0 }) ns) r → r.stage ≡ Removed
 among_new [] r k = absurd k
 among_new (n ∷ ns) r (inl e) = sym (ap (λ (x : Removal). x.stage) e)
 among_new (n ∷ ns) r (inr k) = among_new ns r k

@@ -21,7 +21,7 @@ use Rattle.world_model.proofs.Quiet.{not_open}
 use Rattle.world_model.proofs.Inductions.{by_states, by_more, by_more_states, one_more_of}
 use Rattle.world_model.proofs.Counts.{count-append, count-cons, uncounted}
 use Rattle.world_model.proofs.Stages.{one_counted}
-use Rattle.world_model.proofs.Barrier.{lived, living_stays, commits, own_unit}
+use Rattle.world_model.proofs.Barrier.{lived, living_stays, own_unit}
 use Rattle.world_model.proofs.Joins.{histories_join}
 use Rattle.world_model.proofs.NameFacts.{found_unit}
 use Rattle.world_model.proofs.Units.{AreApart, units_apart}
@@ -40,11 +40,6 @@ same_pass_true (Marker a) Collector h = absurd cc
 same_pass_true Collector Collector h = refl
 same_pass_true Collector (Lane b) h = absurd cc
 same_pass_true Collector (Marker b) h = absurd cc
-
-pub same_pass_refl : (p : Pass) → same_pass p p ≡ true
-same_pass_refl (Lane a) = eq-eqb a a refl
-same_pass_refl (Marker a) = eq-eqb a a refl
-same_pass_refl Collector = refl
 
 -- ---- while a frame or slice is open
 
@@ -103,10 +98,6 @@ no_commit z s (Lane lane) (act.CommitGc commit.Done) q may h = absurd may.may
 no_commit z s (Marker marker) (act.CommitGc commit.Done) q may h = absurd may.may
 no_commit z s p _ q may h = refl
 
-no_commit_there : (a : Act) → is_done a ≡ false → commits a ≡ false
-no_commit_there (act.CommitGc commit.Done) other = absurd cc
-no_commit_there _ other = refl
-
 phase_next : (z : Sizes) (s : State) (p : Pass) (a : Act) → MayBy z s p a → is_start a ≡ false → is_done a ≡ false → PhaseStays s.world.phase (next_world s.marks s.world p a).phase
 phase_next z s p (act.BeginGc begin.Started) may start other = absurd cc
 phase_next z s p (act.CommitGc commit.Done) may start other = absurd cc
@@ -158,7 +149,7 @@ open_keeps_holds z before during q legal is all = by_more z before Kept (λ e. C
           starts = none (λ e. is_start e.act) ds e start h.starts;
           commits = none (λ e. is_done e.act) ds e commit h.commits;
           phase = phase_joins (after before).phase s.world.phase (next s e).world.phase h.phase (phase_next z s e.pass e.act may start commit);
-          lives = λ n k. living_stays s e.pass e.act n (no_commit_there e.act commit) (h.lives n k);
+          lives = λ n k. living_stays s e.pass e.act n commit (h.lives n k);
           units = λ n k. unit_stays s e.pass e.act n commit (h.lives n k) ∙ h.units n k;
         })
       where

@@ -20,6 +20,7 @@ pub mod Sound
 pub mod Barrier
 pub mod Stages
 pub mod Removals
+pub mod Afters
 pub mod Places
 pub mod Pairs
 pub mod Frames

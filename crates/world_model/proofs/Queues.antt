@@ -47,7 +47,7 @@ pub record IsQueue (w : World) (asked : Option Name) (todo ring : List Name) (re
 
 -- ---- lists
 
-pub other_name : (ns : List Name) (x n : Name) → has ns x ≡ false → Among ns n → same_name x n ≡ false
+other_name : (ns : List Name) (x n : Name) → has ns x ≡ false → Among ns n → same_name x n ≡ false
 other_name [] x n h k = absurd k
 other_name (m ∷ ns) x n h (inl e) = ap (same_name x) (sym e) ∙ (or_false _ _ h).0
 other_name (m ∷ ns) x n h (inr k) = other_name ns x n (or_false _ _ h).1 k
@@ -60,7 +60,7 @@ each_more P xs x all is y k = go (among_append xs (x ∷ []) y k)
     go (inr (inl e)) = subst P e is
     go (inr (inr h)) = absurd h
 
-pub filter_all : {A : Type 0} (p : A → Bool) (xs : List A) → ((x : A) → Among xs x → p x ≡ true) → filter p xs ≡ xs
+filter_all : {A : Type 0} (p : A → Bool) (xs : List A) → ((x : A) → Among xs x → p x ≡ true) → filter p xs ≡ xs
 filter_all p [] h = refl
 filter_all p (x ∷ xs) h = rw (h x (inl refl), filter_all p xs (λ y k. h y (inr k))) refl
 
@@ -85,7 +85,7 @@ all_at p [] x h k = absurd k
 all_at p (y ∷ xs) x h (inl e) = ap p (sym e) ∙ (and_true _ _ h).0
 all_at p (y ∷ xs) x h (inr k) = all_at p xs x (and_true _ _ h).1 k
 
-pub all_from : {A : Type 0} (p : A → Bool) (xs : List A) → ((x : A) → Among xs x → p x ≡ true) → list_all p xs ≡ true
+all_from : {A : Type 0} (p : A → Bool) (xs : List A) → ((x : A) → Among xs x → p x ≡ true) → list_all p xs ≡ true
 all_from p [] h = refl
 all_from p (x ∷ xs) h = and_from _ _ (h x (inl refl)) (all_from p xs (λ y k. h y (inr k)))
 
@@ -148,7 +148,7 @@ second_part : (ns ms : List Name) → all_different (ns ++ ms) ≡ true → all_
 second_part [] ms h = h
 second_part (m ∷ ns) ms h = second_part ns ms (and_true _ _ h).1
 
-pub in_one_part : (ns ms : List Name) (n : Name) → all_different (ns ++ ms) ≡ true → Among ns n → has ms n ≡ true → ⊥
+in_one_part : (ns ms : List Name) (n : Name) → all_different (ns ++ ms) ≡ true → Among ns n → has ms n ≡ true → ⊥
 in_one_part [] ms n h k l = absurd k
 in_one_part (m ∷ ns) ms n h (inr k) l = in_one_part ns ms n (and_true _ _ h).1 k l
 in_one_part (m ∷ ns) ms n h (inl e) l =
@@ -171,11 +171,11 @@ one_unit (x ∷ units) u v n different k l a b = go k l (one_unit units u v n (s
     go (inr k) (inl f) rest = absurd (twice v u f k b a)
     go (inr k) (inr l) rest = rest k l a b
 
-pub begins_among : (n : Name) (u : List Name) → begins_with n u ≡ true → Among u n
+begins_among : (n : Name) (u : List Name) → begins_with n u ≡ true → Among u n
 begins_among n [] h = absurd cc
 begins_among n (m ∷ u) h = inl (sym (same_name_true n m h))
 
-pub first_begins : (n : Name) (u : List Name) → Some n ≡ first_member u → begins_with n u ≡ true
+first_begins : (n : Name) (u : List Name) → Some n ≡ first_member u → begins_with n u ≡ true
 first_begins n [] e = absurd cc
 first_begins n (m ∷ u) e = let same : n ≡ m = cc in ap (same_name n) (sym same) ∙ same_name_refl n
 
@@ -309,11 +309,11 @@ fresh n stage (r ∷ rs) h =
     spread false false c = refl
 
 -- a removed object whose stage changed is at the new one
-pub restaged : (w : World) (x : Name) (new stage : Stage) → in_removals w x ≡ true → is_at (at_stage w x new) stage x ≡ has_stage stage new
+restaged : (w : World) (x : Name) (new stage : Stage) → in_removals w x ≡ true → is_at (at_stage w x new) stage x ≡ has_stage stage new
 restaged w x new stage is = is_at-at_stage_same w x new stage ∙ ap (λ (b : Bool). has_stage stage new && b) is ∙ and_comm (has_stage stage new) true
 
 -- where an object's stage changed, the same objects as before are at a stage that is neither its old one nor its new one
-pub elsewhere : (w : World) (x : Name) (old new stage : Stage) → IsOrder w → is_at w old x ≡ true
+elsewhere : (w : World) (x : Name) (old new stage : Stage) → IsOrder w → is_at w old x ≡ true
     → has_stage stage old ≡ false → has_stage stage new ≡ false → (n : Name) → is_at (at_stage w x new) stage n ≡ is_at w stage n
 elsewhere w x old new stage order at a b n = go (same_name x n) refl
   where

@@ -94,7 +94,7 @@ not_open w p is none = let wrong : false ≡ true = rw none at is in cc
 
 -- ---- from a steady state
 
-pub any_none : (u : List Name) → list_any (has []) u ≡ true → ⊥
+any_none : (u : List Name) → list_any (has []) u ≡ true → ⊥
 any_none [] h = cc
 any_none (n ∷ u) h = any_none u h
 
@@ -224,7 +224,7 @@ stuck_next z s (Lane l) a may quiet stuck = go (stuck.0 == l) refl
 
 -- ---- from a state in which no collection marks
 
-pub settled_not : (phase : Phase) (stop : SweepStop) → phase ≢ Marking → settled phase stop ≢ Marking
+settled_not : (phase : Phase) (stop : SweepStop) → phase ≢ Marking → settled phase stop ≢ Marking
 settled_not phase sweep.More h = h
 settled_not phase sweep.Settled h = λ e. cc
 settled_not phase (sweep.NotGathering p) h = h

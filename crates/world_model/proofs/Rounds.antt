@@ -229,13 +229,13 @@ stands n stage r = same_name n r.name && has_stage stage r.stage
 abbrev pub in_removals : World → Name → Bool
 in_removals w n = list_any (λ r. same_name n r.name) w.removals
 
-pub has_stage_true : (a b : Stage) → has_stage a b ≡ true → a ≡ b
+has_stage_true : (a b : Stage) → has_stage a b ≡ true → a ≡ b
 has_stage_true Removed Removed h = refl
 has_stage_true Begun Begun h = refl
 has_stage_true Finished Finished h = refl
 has_stage_true a b h = absurd cc
 
-pub any_map : {A B : Type 0} (f : A → B) (q : B → Bool) (t : A → Bool) → ((x : A) → q (f x) ≡ t x) → (xs : List A) → list_any q (map f xs) ≡ list_any t xs
+any_map : {A B : Type 0} (f : A → B) (q : B → Bool) (t : A → Bool) → ((x : A) → q (f x) ≡ t x) → (xs : List A) → list_any q (map f xs) ≡ list_any t xs
 any_map f q t same [] = refl
 any_map f q t same (x ∷ xs) = rw (same x, any_map f q t same xs) refl
 
@@ -244,7 +244,7 @@ any_and true t xs = refl
 any_and false t [] = refl
 any_and false t (x ∷ xs) = any_and false t xs
 
-pub stands_named : (n : Name) (stage : Stage) (rs : List Removal) → list_any (stands n stage) rs ≡ true → list_any (named n) rs ≡ true
+stands_named : (n : Name) (stage : Stage) (rs : List Removal) → list_any (stands n stage) rs ≡ true → list_any (named n) rs ≡ true
 stands_named n stage [] h = h
 stands_named n stage (r ∷ rs) h = go (named n r) (stands_named n stage rs) h
   where
@@ -407,13 +407,13 @@ pub has-members : (units : List (List Name)) (n : Name) → has (members units) 
 has-members [] n = refl
 has-members (u ∷ units) n = list_any-append (same_name n) u (members units) ∙ ap (λ (b : Bool). has u n || b) (has-members units n)
 
-pub among_any : {A : Type 0} (p : A → Bool) (xs : List A) (x : A) → Among xs x → p x ≡ true → list_any p xs ≡ true
+among_any : {A : Type 0} (p : A → Bool) (xs : List A) (x : A) → Among xs x → p x ≡ true → list_any p xs ≡ true
 among_any p [] x k is = absurd k
 among_any p (y ∷ xs) x (inl e) is = rw (ap p e ∙ is) refl
 among_any p (y ∷ xs) x (inr k) is = or_right (p y) _ (among_any p xs x k is)
 
 -- a test that some element passes, where all elements are this one
-pub any_same : {A : Type 0} (p : A → Bool) (xs : List A) (x : A) → ((y : A) → Among xs y → y ≡ x) → list_any p xs ≡ true → p x ≡ true
+any_same : {A : Type 0} (p : A → Bool) (xs : List A) (x : A) → ((y : A) → Among xs y → y ≡ x) → list_any p xs ≡ true → p x ≡ true
 any_same p [] x same h = absurd cc
 any_same p (y ∷ xs) x same h = go (or_true (p y) _ h) (any_same p xs x (λ z k. same z (inr k)))
   where
@@ -434,7 +434,7 @@ has-released_by w of u among begins one n = has-members (filter (begins_with of)
     go false e = false_from_ne_true _ (λ h. let t = any_same (λ (v : List Name). has v n) _ u same h in absurd cc)
 
 -- different names in two parts: none stands in both, and those of the second are different
-pub different_parts : (ns ms : List Name) → all_different (ns ++ ms) ≡ true
+different_parts : (ns ms : List Name) → all_different (ns ++ ms) ≡ true
     → ((n : Name) → has ns n ≡ true → has ms n ≡ true → ⊥) × (all_different ms ≡ true)
 different_parts [] ms h = (λ n k. absurd cc, h)
 different_parts (m ∷ ns) ms h =

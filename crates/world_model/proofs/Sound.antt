@@ -11,7 +11,7 @@ use Rattle.world_model.specs.NameLists.{same_name, has, all_different, members, 
 use Rattle.world_model.specs.World.{World, in_world}
 use Rattle.world_model.specs.State.{State, beginning, is_marked, white_units}
 use Rattle.world_model.specs.Next.{next_world, next}
-use Rattle.world_model.specs.CollectorSteps.{Begins, Releases, Asks, Commits}
+use Rattle.world_model.specs.CollectorSteps.{Begins, Releases, Commits}
 use Rattle.world_model.specs.LaneSteps.{Makes}
 use Rattle.world_model.specs.Histories.{MayBy, May, Legal, state_of}
 use Rattle.world_model.specs.Follows.{IsMade, is_removed, made_by}
@@ -34,11 +34,6 @@ pub begins_may : (z : Sizes) (s : State) (p : Pass) (of : Name) → MayBy z s p 
 begins_may z s (Lane lane) of may = absurd may.may
 begins_may z s (Marker marker) of may = absurd may.may
 begins_may z s Collector of may = may.may
-
-pub asks_may : (z : Sizes) (s : State) (p : Pass) (of : Name) (poll : ℕ) (answer : Bool) → MayBy z s p (act.Asked of poll answer) → Asks s of poll
-asks_may z s (Lane lane) of poll answer may = absurd may.may
-asks_may z s (Marker marker) of poll answer may = absurd may.may
-asks_may z s Collector of poll answer may = may.may
 
 pub finishes_may : (z : Sizes) (s : State) (p : Pass) (of : Name) → MayBy z s p (act.Finished of) → s.collector.agreed ≡ Some of
 finishes_may z s (Lane lane) of may = absurd may.may

@@ -1,5 +1,5 @@
 -- In every legal history the stage of an object tells how often it was begun and finished.
-use Rattle.std.proofs.Common.{◌≡◌, ℕ, ◌+◌, ◌≤◌, ◌<◌, refl, sym, subst, ap, ◌∙◌, inl, inr, arith, Bool, cond, true, false, not, ◌||◌, List, [], ◌∷◌, ◌++◌, map, filter, ◌⊎◌}
+use Rattle.std.proofs.Common.{◌≡◌, ℕ, ◌+◌, ◌≤◌, ◌<◌, refl, sym, subst, ap, ◌∙◌, inl, inr, arith, Bool, cond, true, false, not, ◌||◌, List, [], ◌∷◌, ◌++◌, filter, ◌⊎◌}
 use Rattle.std.specs.List.{list_any, list_all, count_by}
 use Rattle.std.proofs.lemmas.Bool.{both_ways, false_from_ne_true, cases_lt}
 use Rattle.std.proofs.lemmas.List.Folds.{list_any-append}
@@ -9,7 +9,7 @@ use Rattle.world_model.specs.Types.begin
 use Rattle.world_model.specs.Types.commit
 use Rattle.world_model.specs.Sizes.{Sizes}
 use Rattle.world_model.specs.NameLists.{same_name, has, members}
-use Rattle.world_model.specs.World.{World, Removal, Stage, Removed, Begun, Finished, has_stage, in_world, made, is_at}
+use Rattle.world_model.specs.World.{World, Stage, Removed, Begun, Finished, has_stage, in_world, made, is_at}
 use Rattle.world_model.specs.State.{State, is_marked, white_units}
 use Rattle.world_model.specs.Next.{next_world, next_by, next, at_stage, polled, released}
 use Rattle.world_model.specs.Histories.{MayBy, May, Legal, state_of, after}
@@ -21,7 +21,7 @@ use Rattle.world_model.proofs.Rounds.{in_removals_at, is_at-at_stage_same, is_at
 use Rattle.world_model.proofs.Queues.{find_some, all_at, last_stage, named_any, fresh}
 use Rattle.world_model.proofs.Inductions.{by_entries, by_states, one_more}
 use Rattle.world_model.proofs.Counts.{count-append, count-cons, names_new, names_of, names_filter}
-use Rattle.world_model.proofs.Destroying.{named_kept, released_unit, left_after}
+use Rattle.world_model.proofs.Destroying.{named_kept, released_unit, left_after, among_new}
 use Rattle.world_model.proofs.Sound.{IsSound, sound, next_sound, not_both, made_removed, made_stays, was_made, is_new, begins_may, finishes_may, releases_may, commits_may}
 use Rattle.world_model.proofs.Barrier.{lived}
 
@@ -130,13 +130,8 @@ staged_commit z s p n b f may known h = record {
     was_living : is_removed w' n ≡ true → in_world s.world n ≡ true
     was_living k = any_filter (λ u. has u n) (λ u. not (is_marked s.marks u)) s.world.units (sym (has-members (white_units s.marks s.world) n) ∙ sym is_named ∙ k)
 
-    all_new : (ns : List Name) (r : Removal) → Among (map (λ n. record { name = n; stage = Removed; polls = 0 }) ns) r → r.stage ≡ Removed
-    all_new [] r k = absurd k
-    all_new (m ∷ ns) r (inl e) = sym (ap (λ (x : Removal). x.stage) e)
-    all_new (m ∷ ns) r (inr k) = all_new ns r k
-
     none : (stage : Stage) → has_stage stage Removed ≡ false → is_at w' stage n ≡ false
-    none stage apart = fresh n stage w'.removals (all_new white) ∙ (rw apart refl)
+    none stage apart = fresh n stage w'.removals (among_new white) ∙ (rw apart refl)
 
     -- what neither lives nor is removed did not live before
     no_longer : in_world w' n ≡ false → is_removed w' n ≡ false → in_world s.world n ≡ false

@@ -87,6 +87,17 @@ abbrev pub LivesAfter : Type 0
 LivesAfter = (z : Sizes) (history : List Entry) (e : Entry) → Legal z (history ++ e ∷ []) → (n : Name) → IsTrue (in_world (after (history ++ e ∷ [])) n)
     ↔ (IsTrue (has (made_by e.pass e.act) n) ⊎ (IsTrue (in_world (after history) n) × (IsTrue (is_done e.act) → IsMarked (state_of history) n)))
 
+-- After an entry the units are the one that it makes, if it makes one, and those before it; after a commit, of these, the marked ones.
+abbrev pub UnitsAfter : Type 0
+UnitsAfter = (z : Sizes) (history : List Entry) (e : Entry) → Legal z (history ++ e ∷ []) → (u : List Name) → IsUnit (graph (after (history ++ e ∷ []))) u
+    ↔ (((made_by e.pass e.act ≢ []) × (u ≡ made_by e.pass e.act)) ⊎ (IsUnit (graph (after history)) u × (IsTrue (is_done e.act) → IsTrue (is_marked (state_of history).marks u))))
+
+-- After an entry there are removed, after a commit, the objects of the units that were not marked, and those that were removed and that it does not release.
+abbrev pub RemovedAfter : Type 0
+RemovedAfter = (z : Sizes) (history : List Entry) (e : Entry) → Legal z (history ++ e ∷ []) → (n : Name) → IsTrue (is_removed (after (history ++ e ∷ [])) n)
+    ↔ ((IsTrue (is_done e.act) × IsTrue (in_world (after history) n) × (is_marked (state_of history).marks (unit_of (after history) n) ≡ false))
+    ⊎ (IsTrue (is_removed (after history) n) × (has (freed_by (after history) e.act) n ≡ false)))
+
 -- An object that was made and does not live does not live again.
 abbrev pub NoneComesBack : Type 0
 NoneComesBack = (z : Sizes) (before more : List Entry) → Legal z (before ++ more) → (n : Name) → IsMade (after before) n → in_world (after before) n ≡ false → in_world (after (before ++ more)) n ≡ false
@@ -370,7 +381,7 @@ pub record GivesNamesOnce (history : List Entry) : Type 0 where
 abbrev pub NamesOnce : Type 0
 NamesOnce = (z : Sizes) (history : List Entry) → Legal z history → GivesNamesOnce history
 
--- No serial is given to two objects.
+-- No serial is given to two objects: it is 16 times a count and the lane, and a lawful shape has at most 8 lanes.
 abbrev pub SerialsOnce : Type 0
 SerialsOnce = (z : Sizes) → IsLawful z → (history : List Entry) → Legal z history → (p q : Pair)
     → Contains (after history).pairs p → Contains (after history).pairs q → p.weak.serial ≡ q.weak.serial → p ≡ q

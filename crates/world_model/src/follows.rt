@@ -1,40 +1,18 @@
 //! What follows from the rules: laws of every legal history, each the contract of a function that
 //! does nothing.
-ghost use Rattle.world_model.specs.Follows.{
-  HeldLives,
-  NamedLives,
-  LivesAfter,
-  NoneComesBack,
-  UnitsAreSound,
-  EachInOnePlace,
-  BlackRefersToMarked,
-  NoWhiteReached,
-  StartMarksRoots,
-  RootsStayMarked,
-  CommitRuleFollows,
-  ReachedStay,
-  CommitRemovesUnreached,
-  FloatingIsBounded,
-  UnreachedIsRemoved,
-  DestroyedOnce,
-  DestroyedByStage,
-  AllBegunFirst,
-  BegunWhenFinished,
-  ReleasedWhole,
-  ReleasedBeforeStart,
-  WeakPointers,
-  ResolveGives,
-  ResolveGivesNoneAgain,
-  OpenKeeps,
-  OwnStays,
-  OwnJoins,
-  FewOpen,
-  QuotasHold,
-  NamesOnce,
-  SerialsOnce,
-  UnitStays,
-  HeadlineHolds,
-};
+ghost use Rattle.world_model.specs.Follows.{HeadlineHolds};
+ghost use Rattle.world_model.specs.Follows.{HeldLives, NamedLives, LivesAfter, UnitsAfter};
+ghost use Rattle.world_model.specs.Follows.{RemovedAfter, NoneComesBack, UnitStays};
+ghost use Rattle.world_model.specs.Follows.{UnitsAreSound, EachInOnePlace};
+ghost use Rattle.world_model.specs.Follows.{BlackRefersToMarked, NoWhiteReached, StartMarksRoots};
+ghost use Rattle.world_model.specs.Follows.{RootsStayMarked, CommitRuleFollows};
+ghost use Rattle.world_model.specs.Follows.{ReachedStay, CommitRemovesUnreached};
+ghost use Rattle.world_model.specs.Follows.{FloatingIsBounded, UnreachedIsRemoved};
+ghost use Rattle.world_model.specs.Follows.{DestroyedOnce, DestroyedByStage, AllBegunFirst};
+ghost use Rattle.world_model.specs.Follows.{BegunWhenFinished, ReleasedWhole, ReleasedBeforeStart};
+ghost use Rattle.world_model.specs.Follows.{WeakPointers, ResolveGives, ResolveGivesNoneAgain};
+ghost use Rattle.world_model.specs.Follows.{OpenKeeps, OwnStays, OwnJoins, FewOpen};
+ghost use Rattle.world_model.specs.Follows.{QuotasHold, NamesOnce, SerialsOnce};
 
 /// A collection removes only whole units that no root reaches, each object is begun at most once
 /// and then finished at most once, and a weak pointer gives its own object until its removal and
@@ -60,6 +38,18 @@ pub fn named_lives()
 /// commit, of these, those of marked units.
 pub fn lives_after()
     ensures { LivesAfter }
+{}
+
+/// After an entry the units are the one that it makes, if it makes one, and those before it; after a
+/// commit, of these, the marked ones.
+pub fn units_after()
+    ensures { UnitsAfter }
+{}
+
+/// After an entry there are removed, after a commit, the objects of the units that were not marked,
+/// and those that were removed and that it does not release.
+pub fn removed_after()
+    ensures { RemovedAfter }
 {}
 
 /// An object that was made and does not live does not live again.
