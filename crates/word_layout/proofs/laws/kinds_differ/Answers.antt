@@ -1,0 +1,5 @@
+use Rattle.word_layout.proofs.Different as different
+use Rattle.word_layout.proofs.laws.kinds_differ.Goals as goal
+
+pub returns : goal.returns
+returns c = different.kinds

@@ -1,0 +1,160 @@
+//! Words that were worked out by hand.
+use crate::gate::{Gate, pack_gate, unpack_gate};
+use crate::head::{Head, Life, pack_head, unpack_head};
+use crate::kind::{pack_kind, unpack_kind};
+use crate::place::{Part, word_of};
+use crate::reference::{pack_ref, unpack_ref};
+use crate::stock::{Stock, pack_stock, unpack_stock};
+use crate::weak::{pack_weak, unpack_weak};
+use world_model::{ClassId, Kind, Level, Name, Phase, Ready, Ref, Small, Weak};
+
+#[test]
+fn gates(rt: HostRuntime) {
+    let g = Gate {
+        phase: Phase::Marking,
+        parity: true,
+        dirty: false,
+        frames: 3,
+    };
+    assert_eq!(rt; pack_gate(g), 773);
+    assert_eq!(rt; unpack_gate(773), Some(g));
+    let most = Gate {
+        phase: Phase::Gathering,
+        parity: true,
+        dirty: true,
+        frames: 255,
+    };
+    assert_eq!(rt; pack_gate(most), 65294);
+    assert_eq!(rt; unpack_gate(65294), Some(most));
+    // A phase that there is not, and bits without a name.
+    for w in [3, 16, 65536, 65536 + 773, 9223372036854775808] {
+        assert_eq!(rt; unpack_gate(w), None);
+    }
+}
+
+#[test]
+fn heads(rt: HostRuntime) {
+    let h = Head {
+        life: Life::Doomed,
+        colour: true,
+        polls: 5,
+    };
+    assert_eq!(rt; pack_head(h), 327690);
+    assert_eq!(rt; unpack_head(327690), Some(h));
+    let free = Head {
+        life: Life::Free,
+        colour: false,
+        polls: 0,
+    };
+    assert_eq!(rt; pack_head(free), 0);
+    assert_eq!(rt; unpack_head(0), Some(free));
+    for w in [5, 7, 16, 32768, 4294967296] {
+        assert_eq!(rt; unpack_head(w), None);
+    }
+}
+
+#[test]
+fn references(rt: HostRuntime) {
+    let r = Ref {
+        index: 1,
+        name: Name { lane: 0, count: 2 },
+    };
+    assert_eq!(rt; pack_ref(Some(r)), 33554433);
+    assert_eq!(rt; unpack_ref(33554433), Some(Some(r)));
+    let most = Ref {
+        index: 1048575,
+        name: Name {
+            lane: 15,
+            count: 68719476735,
+        },
+    };
+    assert_eq!(rt; pack_ref(Some(most)), 1152921504606846975);
+    assert_eq!(rt; unpack_ref(1152921504606846975), Some(Some(most)));
+    assert_eq!(rt; pack_ref(None), 0);
+    assert_eq!(rt; unpack_ref(0), Some(None));
+    // No count, and one that is too large.
+    for w in [
+        1,
+        1048576,
+        16777215,
+        1152921504606846976,
+        18446744073709551615,
+    ] {
+        assert_eq!(rt; unpack_ref(w), None);
+    }
+}
+
+#[test]
+fn kinds(rt: HostRuntime) {
+    let k = Kind {
+        class: ClassId(7),
+        refs: 2,
+        plain: 3,
+        ready: Ready::After(100),
+    };
+    assert_eq!(rt; pack_kind(k), 6712467463);
+    assert_eq!(rt; unpack_kind(6712467463), Some(k));
+    let never = Kind {
+        class: ClassId(4095),
+        refs: 0,
+        plain: 0,
+        ready: Ready::Never,
+    };
+    assert_eq!(rt; pack_kind(never), 8522829823);
+    assert_eq!(rt; unpack_kind(8522829823), Some(never));
+    // Readiness 101 and 126, and a bit without a name.
+    for w in [6777995264, 8455716864, 8589934592] {
+        assert_eq!(rt; unpack_kind(w), None);
+    }
+}
+
+#[test]
+fn stocks_and_pairs(rt: HostRuntime) {
+    let one = Stock {
+        first: Some(0),
+        count: 1,
+    };
+    assert_eq!(rt; pack_stock(one), 4294967297);
+    assert_eq!(rt; unpack_stock(4294967297), Some(one));
+    let none = Stock {
+        first: None,
+        count: 0,
+    };
+    assert_eq!(rt; pack_stock(none), 0);
+    assert_eq!(rt; unpack_stock(0), Some(none));
+    for w in [1048577, 4294967295, 4503603922337792] {
+        assert_eq!(rt; unpack_stock(w), None);
+    }
+    let pair = Weak {
+        index: 7,
+        serial: 31,
+    };
+    assert_eq!(rt; pack_weak(pair), 133143986183);
+    assert_eq!(rt; unpack_weak(133143986183), pair);
+    let empty = Weak {
+        index: 0,
+        serial: 0,
+    };
+    assert_eq!(rt; unpack_weak(0), empty);
+}
+
+// A level has 4 lanes of 8,192 items, rows of 512 words, 64 strong pointers a lane and 9 rows.
+#[test]
+fn places(rt: HostRuntime) {
+    assert_eq!(rt; word_of::<Level>(Part::Gate), 0);
+    assert_eq!(rt; word_of::<Level>(Part::Polling), 4);
+    assert_eq!(rt; word_of::<Level>(Part::FreeStock(0)), 5);
+    assert_eq!(rt; word_of::<Level>(Part::SerialsMade(3)), 20);
+    assert_eq!(rt; word_of::<Level>(Part::Strong(1, 2)), 87);
+    assert_eq!(rt; word_of::<Level>(Part::Root(511)), 788);
+    assert_eq!(rt; word_of::<Level>(Part::Row(0, 0)), 789);
+    assert_eq!(rt; word_of::<Level>(Part::Row(8, 511)), 5396);
+    assert_eq!(rt; word_of::<Level>(Part::Head(0)), 5397);
+    assert_eq!(rt; word_of::<Level>(Part::Owner(0)), 38165);
+    assert_eq!(rt; word_of::<Level>(Part::Serial(32767)), 202004);
+    assert_eq!(rt; word_of::<Level>(Part::Cell(1, 11)), 202028);
+    assert_eq!(rt; word_of::<Level>(Part::Cell(32767, 11)), 595220);
+    // A small world has 2 lanes of 8 items.
+    assert_eq!(rt; word_of::<Small>(Part::Gate), 0);
+    assert_eq!(rt; word_of::<Small>(Part::ReturnStock(1)), 8);
+}
