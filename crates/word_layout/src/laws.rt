@@ -1,5 +1,5 @@
 //! What is true of the words of all values.
-ghost use Rattle.word_layout.specs.Changes.{FramesAdd, DirtyChanges, ColourChanges, BitsChange};
+ghost use Rattle.word_layout.specs.Changes.{FramesAdd, PhaseChanges, DirtyChanges, ColourChanges, BitsChange};
 ghost use Rattle.word_layout.specs.Places.{PlacesFit, PlacesDiffer};
 ghost use Rattle.word_layout.specs.Values.{AreDifferent, IsGate, gate_word, IsHead, head_word, IsWeak, weak_word, IsRef, ref_word, IsKind, kind_word, IsStock, stock_word};
 
@@ -48,6 +48,12 @@ pub fn frames_add()
     ensures { FramesAdd }
 {}
 
+/// Replacing bits 0 and 1 of the word of a gate replaces its phase, flipping bit 2 flips its parity, and
+/// nothing else changes.
+pub fn phase_changes()
+    ensures { PhaseChanges }
+{}
+
 /// Setting or clearing bit 3 of the word of a gate sets or clears its dirty bit, and nothing else.
 pub fn dirty_changes()
     ensures { DirtyChanges }
@@ -58,7 +64,7 @@ pub fn colour_changes()
     ensures { ColourChanges }
 {}
 
-/// Setting or clearing a bit of a word changes that bit alone.
+/// Setting or clearing a bit of a word changes that bit alone, and the count of ones by what it was before.
 pub fn bits_change()
     ensures { BitsChange }
 {}

@@ -21,7 +21,8 @@ pub use head::{Head, Life, pack_head, unpack_head};
 pub use kind::{pack_kind, unpack_kind};
 pub use laws::{
     bits_change, colour_changes, dirty_changes, frames_add, gates_differ, heads_differ,
-    kinds_differ, pairs_differ, places_differ, places_fit, references_differ, stocks_differ,
+    kinds_differ, pairs_differ, phase_changes, places_differ, places_fit, references_differ,
+    stocks_differ,
 };
 pub use place::{Part, word_of};
 pub use reference::{pack_ref, unpack_ref};

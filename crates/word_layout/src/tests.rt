@@ -2,6 +2,11 @@
 use crate::gate::{Gate, pack_gate, unpack_gate};
 use crate::head::{Head, Life, pack_head, unpack_head};
 use crate::kind::{pack_kind, unpack_kind};
+use crate::laws::{
+    bits_change, colour_changes, dirty_changes, frames_add, gates_differ, heads_differ,
+    kinds_differ, pairs_differ, phase_changes, places_differ, places_fit, references_differ,
+    stocks_differ,
+};
 use crate::place::{Part, word_of};
 use crate::reference::{pack_ref, unpack_ref};
 use crate::stock::{Stock, pack_stock, unpack_stock};
@@ -157,4 +162,59 @@ fn places(rt: HostRuntime) {
     // A small world has 2 lanes of 8 items.
     assert_eq!(rt; word_of::<Small>(Part::Gate), 0);
     assert_eq!(rt; word_of::<Small>(Part::ReturnStock(1)), 8);
+}
+
+// What single steps make of words: an addition, and bits that are set, cleared, flipped or replaced.
+#[test]
+fn steps(rt: HostRuntime) {
+    let g = Gate {
+        phase: Phase::Marking,
+        parity: true,
+        dirty: false,
+        frames: 3,
+    };
+    assert_eq!(rt; unpack_gate(773 + 256), Some(Gate { frames: 4, ..g }));
+    assert_eq!(rt; unpack_gate(773 | 8), Some(Gate { dirty: true, ..g }));
+    assert_eq!(rt; unpack_gate(781 & !8), Some(g));
+    assert_eq!(rt; unpack_gate(773 ^ 4), Some(Gate { parity: false, ..g }));
+    assert_eq!(rt;
+        unpack_gate((773 & !3) | 2),
+        Some(Gate {
+            phase: Phase::Gathering,
+            ..g
+        })
+    );
+    let h = Head {
+        life: Life::Live,
+        colour: false,
+        polls: 2,
+    };
+    assert_eq!(rt; unpack_head(131073), Some(h));
+    assert_eq!(rt; unpack_head(131073 | 8), Some(Head { colour: true, ..h }));
+    assert_eq!(rt; unpack_head(131081 & !8), Some(h));
+    // Bits 0, 5 and 63 of a word of a row, and how many ones it has.
+    let row: u64 = 9223372036854775841;
+    assert_eq!(rt; row.count_ones(), 3);
+    assert_eq!(rt; (row | 2).count_ones(), 4);
+    assert_eq!(rt; (row | 32).count_ones(), 3);
+    assert_eq!(rt; (row & !32).count_ones(), 2);
+    assert_eq!(rt; (row & !2).count_ones(), 3);
+}
+
+// The laws hold of every value: they can be called anywhere.
+#[test]
+fn laws() {
+    gates_differ();
+    heads_differ();
+    pairs_differ();
+    references_differ();
+    kinds_differ();
+    stocks_differ();
+    places_fit();
+    places_differ();
+    frames_add();
+    phase_changes();
+    dirty_changes();
+    colour_changes();
+    bits_change();
 }
