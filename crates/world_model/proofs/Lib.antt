@@ -28,3 +28,4 @@ pub mod Floating
 pub mod Headlines
 pub mod Garbage
 pub mod Sharp
+pub mod Edges

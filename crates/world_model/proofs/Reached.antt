@@ -7,7 +7,7 @@ use Rattle.std.proofs.Math.Nat.{lt_of_not-le}
 use Rattle.std.proofs.lemmas.List.Sums.{sum_by-cons, count_by-le-length}
 use Rattle.world_model.specs.Types.{Name}
 use Rattle.world_model.specs.NameLists.{has}
-use Rattle.world_model.specs.Reach.{Graph, IsUnit, Refers, IsRootUnit, Walk, IsReached}
+use Rattle.world_model.specs.Reach.{Graph, IsUnit, Refers, Walk, IsReached}
 use Rattle.world_model.specs.Reached.{within_steps, names_member, object_refers, refers_to, is_reached, HasSlots, TellsRoots, ReachBySteps}
 use Rattle.world_model.proofs.ListFacts.{Among, and_true, or_true, or_right, contains_among, among_contains, among_test, test_among}
 use Rattle.world_model.proofs.NameFacts.{has_among, among_has}

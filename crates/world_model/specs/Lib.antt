@@ -25,3 +25,4 @@ pub mod Engines
 pub mod Laws
 pub mod Follows
 pub mod Examples
+pub mod Edges

@@ -3,6 +3,7 @@
 ghost use Rattle.world_model.specs.Sizes.{level, small};
 ghost use Rattle.world_model.specs.Histories.{Legal};
 ghost use Rattle.world_model.specs.Examples.{smallest, busy, GarbageStays, AreSharp, Refusals};
+ghost use Rattle.world_model.specs.Edges.{Edges};
 
 /// The history of the smallest script, in shape [`crate::Level`]: an object is made and rooted,
 /// and a collection keeps it.
@@ -34,4 +35,10 @@ pub fn laws_are_sharp()
 /// Entries that no legal history goes on with.
 pub fn wrong_entries_are_refused()
     ensures { Refusals }
+{}
+
+/// The sharpest edges of the rules: on each, an entry that may come next, and its neighbour that
+/// may not.
+pub fn edges_are_sharp()
+    ensures { Edges }
 {}
