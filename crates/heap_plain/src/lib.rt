@@ -21,4 +21,6 @@ mod sweeping;
 pub use heap::PlainHeap;
 
 #[cfg(test)]
+mod cell_tests;
+#[cfg(test)]
 mod tests;

@@ -2,7 +2,7 @@ use Rattle.std.proofs.Common.{refl, ap, ◌∙◌, List}
 use Rattle.world_model.specs.Histories.{after}
 use Rattle.heap_plain.specs.Types.{Entry}
 use Rattle.heap_plain.proofs.Opened.{closed_by_frame, closed_by_slice, same_by_begin, same_by_commit, same_by_sweep, same_by_purge}
-use Rattle.heap_plain.proofs.tests.collect.Goals as goal
+use Rattle.heap_plain.proofs.cell_tests.collect.Goals as goal
 
 pub mark-marked-requires-clause-alone : goal.mark-marked-requires-clause-alone
 mark-marked-requires-clause-alone g c =

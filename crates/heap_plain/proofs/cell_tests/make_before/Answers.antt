@@ -2,7 +2,7 @@ use Rattle.std.proofs.Common.{ap, ◌∙◌, List}
 use Rattle.world_model.specs.Histories.{after}
 use Rattle.heap_plain.specs.Types.{Entry}
 use Rattle.heap_plain.proofs.Opened.{in_level_frame, same_by_create, same_by_write}
-use Rattle.heap_plain.proofs.tests.make_before.Goals as goal
+use Rattle.heap_plain.proofs.cell_tests.make_before.Goals as goal
 
 pub kind_of-kind-requires-clause-frame : goal.kind_of-kind-requires-clause-frame
 kind_of-kind-requires-clause-frame g c = in_level_frame _ (same_by_create _ _ _ c.create.ensures.entries ∙ c.requires.opened)

@@ -1,6 +1,6 @@
 use Rattle.std.proofs.Common.{refl, ◌∙◌}
 use Rattle.heap_plain.proofs.Opened.{closed_by_frame, same_by_begin}
-use Rattle.heap_plain.proofs.tests.chained.Goals as goal
+use Rattle.heap_plain.proofs.cell_tests.chained.Goals as goal
 
 pub mark-marked-requires-clause-alone : goal.mark-marked-requires-clause-alone
 mark-marked-requires-clause-alone g c =

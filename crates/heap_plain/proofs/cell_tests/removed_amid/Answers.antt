@@ -4,7 +4,7 @@ use Rattle.world_model.specs.NameLists.{same_pass}
 use Rattle.world_model.specs.Histories.{after}
 use Rattle.heap_plain.specs.Types.{Lane, Pass, Entry}
 use Rattle.heap_plain.proofs.Opened.{opened_by_frame, same_by_begin}
-use Rattle.heap_plain.proofs.tests.removed_amid.Goals as goal
+use Rattle.heap_plain.proofs.cell_tests.removed_amid.Goals as goal
 
 pub open_frame-requires-clause-closed : goal.open_frame-requires-clause-closed
 open_frame-requires-clause-closed g c =
