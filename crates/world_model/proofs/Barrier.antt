@@ -446,7 +446,7 @@ next_named z s p _ may known h = record { cells = h.named.cells; blank = h.named
 
 -- ---- what is held
 
-perhaps : (o : Option Name) (m : Name) → Among (option_to_list o) m → o ≡ Some m
+pub perhaps : (o : Option Name) (m : Name) → Among (option_to_list o) m → o ≡ Some m
 perhaps None m k = absurd k
 perhaps (Some n) m (inl e) = ap Some e
 perhaps (Some n) m (inr k) = absurd k
@@ -463,7 +463,7 @@ resolved_lives w pair n e = go (find (λ p. same_weak pair p.weak) w.pairs) e
     go (Some p) e = if_lives p (in_world w p.name) refl e
 
 -- what an entry gives to its lane lives
-given_lives : (z : Sizes) (s : State) (lane : ℕ) (a : Act) → MayBy z s (Lane lane) a → IsNamed s.world → IsHolding s.world s.frames → (m : Name) → Among (given lane a) m
+pub given_lives : (z : Sizes) (s : State) (lane : ℕ) (a : Act) → MayBy z s (Lane lane) a → IsNamed s.world → IsHolding s.world s.frames → (m : Name) → Among (given lane a) m
     → in_world (next_world s.marks s.world (Lane lane) a) m ≡ true
 given_lives z s lane (act.Make kinds first) may named h m k = makes_living s (Lane lane) kinds first m (among_has (names_from lane first kinds) m k)
 given_lives z s lane (act.ReadRef at slot got) may named h m k = named.cells at slot m (h.lives lane at may.may.0.held) (sym may.may.1 ∙ perhaps got m k)

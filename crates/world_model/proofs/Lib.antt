@@ -18,6 +18,7 @@ pub mod Counts
 pub mod Destroying
 pub mod Sound
 pub mod Barrier
+pub mod Giving
 pub mod Stages
 pub mod Removals
 pub mod Afters

@@ -11,7 +11,7 @@ use Rattle.world_model.specs.NameLists.{same_name, same_pass, has, all_different
 use Rattle.world_model.specs.World.{World, Pair, Removed, Begun, Finished, unit_of, in_world, is_open, made, occupied, free, resolved, drawn, is_at}
 use Rattle.world_model.specs.Reach.{Graph, graph, IsUnit, Refers, IsRootUnit, Walk, IsReached}
 use Rattle.world_model.specs.State.{State, beginning, Holds, IsMarked, is_marked, is_grey, grey_units}
-use Rattle.world_model.specs.Next.{lane_of, next}
+use Rattle.world_model.specs.Next.{lane_of, given, next}
 use Rattle.world_model.specs.Histories.{state_of, after, Legal}
 use Rattle.world_model.specs.Calls.{Appends}
 use Rattle.world_model.specs.Laws.{started, done}
@@ -72,6 +72,12 @@ names_released history = names_released_from beginning history
 abbrev pub HeldLives : Type 0
 HeldLives = (z : Sizes) (history : List Entry) → Legal z history → (lane : ℕ) (n : Name) → Holds (state_of history) lane n
     → IsTrue (in_world (after history) n) × IsTrue (is_open (after history) (Lane lane))
+
+-- What an entry gives to a lane the lane then holds, with all members of its unit.
+abbrev pub GivenIsHeld : Type 0
+GivenIsHeld = (z : Sizes) (history : List Entry) (lane : ℕ) (a : Act) → Legal z (history ++ entry (Lane lane) a ∷ []) → (n : Name) → IsTrue (has (given lane a) n)
+    → Holds (state_of (history ++ entry (Lane lane) a ∷ [])) lane n
+    × ((m : Name) → IsTrue (has (unit_of (after (history ++ entry (Lane lane) a ∷ [])) n) m) → Holds (state_of (history ++ entry (Lane lane) a ∷ [])) lane m)
 
 -- what a cell of an object that lives names, what is rooted, and what a strong pointer names lives
 pub record NamesLive (w : World) : Type 0 where

@@ -1,7 +1,7 @@
 //! What follows from the rules: laws of every legal history, each the contract of a function that
 //! does nothing.
 ghost use Rattle.world_model.specs.Follows.{HeadlineHolds};
-ghost use Rattle.world_model.specs.Follows.{HeldLives, NamedLives, LivesAfter, UnitsAfter};
+ghost use Rattle.world_model.specs.Follows.{HeldLives, GivenIsHeld, NamedLives, LivesAfter, UnitsAfter};
 ghost use Rattle.world_model.specs.Follows.{RemovedAfter, NoneComesBack, UnitStays};
 ghost use Rattle.world_model.specs.Follows.{UnitsAreSound, EachInOnePlace};
 ghost use Rattle.world_model.specs.Follows.{BlackRefersToMarked, NoWhiteReached, StartMarksRoots};
@@ -26,6 +26,12 @@ pub fn headline()
 /// What a lane holds lives, in every phase, and its frame is open.
 pub fn held_lives()
     ensures { HeldLives }
+{}
+
+/// What an entry gives to a lane, by making it, reading it or resolving a weak pointer, the lane then
+/// holds, with all members of its unit.
+pub fn given_is_held()
+    ensures { GivenIsHeld }
 {}
 
 /// What a reference cell of an object that lives names, what is rooted, and what a strong pointer
