@@ -34,7 +34,7 @@ use Rattle.level_script.specs.Frames.{are_framed, IsPlayable}
 use Rattle.world_model.proofs.ListFacts.{and_true}
 use Rattle.world_play.specs.Laws.{HasClass, OneText}
 use Rattle.world_play.specs.Turns.{Stops, Played, Stopped}
-use Rattle.world_play.specs.Ends.{header_of, limits_in, history_of, IsScript, HasFault, WasTaken, Refuses, WritesFault, HasRun, WasPlayed, OnDone, OnStopped, SaysScript, Headline, EndsEarly, WritesOutcome, CountsLines, TellsScript}
+use Rattle.world_play.specs.Ends.{header_of, limits_in, history_of, IsScript, HasFault, WasTaken, Refuses, WritesFault, HasRun, WasPlayed, OnDone, OnStopped, IsInput, NamesFault, Headline, EndsEarly, WritesOutcome, CountsLines, TellsScript}
 use Rattle.world_play.specs.declared.status.Status.{Status}
 use Rattle.world_play.specs.declared.status.Status.TheVariants as status
 use Rattle.world_play.specs.declared.run.Run.{Run}
@@ -261,18 +261,34 @@ completes_unread name limits status.ReadFault left rest before now are h told qu
 completes_unread name limits status.WriteFault left rest before now are h told quiet = absurd h
 completes_unread name limits status.Memory left rest before now are h told quiet = inr refl
 
-told_script : (name : ShapeName) (left : Option (List ℕ)) (script : Script) → IsScript (limits_in name) left script → IfSome left (λ input. (told : Script) × (script_of input (limits_in name) ≡ Some told))
-told_script name None script is = tt
-told_script name (Some input) script is = (script, is)
+-- the fault of an input is also that of its first 16,777,217 bytes
+front_fault : (input : List ℕ) (limits : Limits) → fault_of (take 16777217 input) limits ≡ fault_of input limits
+front_fault input limits = go (read_of input (take 16777217 input) limits refl)
+  where
+    go : (take 16777217 input ≡ input) ⊎ ((nat_lt 16777216 (length (take 16777217 input)) ≡ true) × (nat_lt 16777216 (length input) ≡ true)) → fault_of (take 16777217 input) limits ≡ fault_of input limits
+    go (inl same) = ap (λ (bytes : List ℕ). fault_of bytes limits) same
+    go (inr (long, longer)) = long_fault (take 16777217 input) limits long ∙ sym (long_fault input limits longer)
 
--- wherever an engine played, the input is a script
-pub says_script_of : (name : ShapeName) (how : Status) (left : Option (List ℕ)) (script : Script) (r : Option Run) (before now : ℕ) → IsScript (limits_in name) left script → WritesFault before now how → SaysScript name left how r
-says_script_of name status.Ok left script None before now is h = tt
-says_script_of name status.Ok left script (Some engine) before now is h = told_script name left script is
-says_script_of name status.Usage left script r before now is h = absurd h
-says_script_of name (status.Script fault) left script r before now is h = absurd h
-says_script_of name status.ReadFault left script r before now is h = absurd h
-says_script_of name status.WriteFault left script None before now is h = tt
-says_script_of name status.WriteFault left script (Some engine) before now is h = told_script name left script is
-says_script_of name status.Memory left script None before now is h = tt
-says_script_of name status.Memory left script (Some engine) before now is h = told_script name left script is
+input_fault : (input bytes : List ℕ) (limits : Limits) → IsInput input bytes → fault_of bytes limits ≡ fault_of input limits
+input_fault input bytes limits (inl same) = ap (λ (xs : List ℕ). fault_of xs limits) same
+input_fault input bytes limits (inr same) = ap (λ (xs : List ℕ). fault_of xs limits) same ∙ front_fault input limits
+
+-- a script has no fault to be named
+pub names_of_script : (name : ShapeName) (how : Status) (left : Option (List ℕ)) (script : Script) (before now : ℕ) → IsScript (limits_in name) left script → WritesFault before now how → NamesFault name left how
+names_of_script name how None script before now is h = tt
+names_of_script name how (Some input) script before now is h = λ bytes fault same. (
+  (λ said. absurd (subst (WritesFault before now) said h)),
+  (λ has. absurd (not_both input (limits_in name) script fault is (sym (input_fault input bytes (limits_in name) same) ∙ has.1))),
+)
+
+-- what was not read has the fault that is named
+pub names_unread : (name : ShapeName) (limits : Limits) (how : Status) (left rest : Option (List ℕ)) (before now : ℕ) → limits ≡ limits_in name → Refuses limits left rest before now how → NamesFault name left how
+names_unread name limits how None rest before now are h = tt
+names_unread name limits status.Ok (Some input) rest before now are h = absurd h
+names_unread name limits status.Usage (Some input) rest before now are h = absurd h
+names_unread name limits (status.Script told) (Some input) rest before now are h = λ bytes fault same.
+    let is : fault_of bytes (limits_in name) ≡ Some told = input_fault input bytes (limits_in name) same ∙ ap (λ (l : Limits). fault_of input l) (sym are) ∙ h.0 in
+    ((λ said. let e : told ≡ fault = cc in (((λ x. cc), (λ x. cc)), is ∙ ap (λ (f : ScriptErr). Some f) e)), (λ has. let e : told ≡ fault = cc in ap (λ (f : ScriptErr). status.Script f) e))
+names_unread name limits status.ReadFault (Some input) rest before now are h = λ bytes fault same. ((λ said. absurd cc), (λ has. absurd (has.0.0 refl)))
+names_unread name limits status.WriteFault (Some input) rest before now are h = absurd h
+names_unread name limits status.Memory (Some input) rest before now are h = λ bytes fault same. ((λ said. absurd cc), (λ has. absurd (has.0.1 refl)))

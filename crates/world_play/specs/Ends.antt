@@ -1,5 +1,5 @@
 -- How a run ends, and what it has done then.
-use Rattle.std.specs.Prelude.{◌≡◌, ◌≢◌, ℕ, ◌⊎◌, List, [], length, map, drop, string_bytes, String, Option, Some, None, option_map, IfSome}
+use Rattle.std.specs.Prelude.{◌≡◌, ◌≢◌, ◌↔◌, ℕ, ◌⊎◌, List, [], length, map, take, drop, string_bytes, String, Option, Some, None, option_map, IfSome}
 use Rattle.std.specs.declared.alloc.Global.{Global}
 use Rattle.play_io.specs.Faults.{Rose}
 use Rattle.world_model.specs.Sizes.{Sizes}
@@ -131,11 +131,17 @@ OnNone (Some engine) what = Unit {0}
 abbrev pub HasShape : ShapeName → Option Run → Type 0
 HasShape name r = IfSome r (λ engine. shape_played engine ≡ name)
 
--- the status of a fault is that of the input; where anything was played, the input is a script, and has none
-abbrev pub SaysScript : ShapeName → Option (List ℕ) → Status → Option Run → Type 0
-SaysScript name left (status.Script fault) r = HasFault (limits_in name) left fault
-SaysScript name left _ None = Unit {0}
-SaysScript name left _ (Some engine) = IfSome left (λ input. (script : Script) × (script_of input (limits_in name) ≡ Some script))
+-- the run ended neither by a fault of the source nor for want of memory
+abbrev pub IsUnbroken : Status → Type 0
+IsUnbroken how = (how ≢ status.ReadFault) × (how ≢ status.Memory)
+
+-- the bytes are the whole input, or its first 16,777,217 bytes
+abbrev pub IsInput : List ℕ → List ℕ → Type 0
+IsInput input bytes = (bytes ≡ input) ⊎ (bytes ≡ take 16777217 input)
+
+-- The status is that of a fault exactly where the whole input, or its first 16,777,217 bytes, has that fault, and neither a fault of the source nor want of memory ended the run.
+abbrev pub NamesFault : ShapeName → Option (List ℕ) → Status → Type 0
+NamesFault name left how = IfSome left (λ input. (bytes : List ℕ) (fault : ScriptErr) → IsInput input bytes → (how ≡ status.Script fault) ↔ (IsUnbroken how × (fault_of bytes (limits_in name) ≡ Some fault)))
 
 -- where the input is a script or has a fault that was told, it was taken up to its end, or to one byte past the limit
 abbrev pub SaysTaken : Option (List ℕ) → Option (List ℕ) → Status → Option Run → Type 0

@@ -3,7 +3,7 @@ ghost use Rattle.std.specs.Prelude.{◌≡◌, ◌≢◌, ◌≤◌, ◌↔◌, 
 ghost use Rattle.level_script.specs.Frames.{IsPlayable};
 ghost use Rattle.level_script.specs.Context.{AreLawful};
 ghost use Rattle.world_play.specs.Words.{sizes_of};
-ghost use Rattle.world_play.specs.Ends.{said, shape_said, limits_of, limits_in, history_of, HasShape, WasTaken, IsScript, Refuses, IsBefore, WritesFault, HasRun, WasPlayed, OnDone, OnStopped, OnNone, SaysScript, SaysTaken, SaysRead, SaysWrite, Headline, EndsEarly, WritesOutcome, CountsLines, TellsScript, Completes, IsSure};
+ghost use Rattle.world_play.specs.Ends.{said, shape_said, limits_of, limits_in, history_of, HasShape, WasTaken, IsScript, Refuses, IsBefore, WritesFault, HasRun, WasPlayed, OnDone, OnStopped, OnNone, NamesFault, SaysTaken, SaysRead, SaysWrite, Headline, EndsEarly, WritesOutcome, CountsLines, TellsScript, Completes, IsSure};
 ghost use Rattle.world_play.specs.declared.status.Status.TheVariants as status;
 
 use crate::header::Header;
@@ -186,7 +186,7 @@ fn perform_in<K: Sink>(alloc: Global, script: &Script, words: Words, out: &mut K
 fn play_words<S: Source, K: Sink>(alloc: Global, words: Words, script: &mut S, out: &mut K) -> Ended
     requires some { 1 ≤ words.slice }
     ensures known { result.status ≢ status.Usage }
-    ensures script { SaysScript words.shape (S.left script.old) result.status result.run }
+    ensures script { NamesFault words.shape (S.left script.old) result.status }
     ensures taken { SaysTaken (S.left script.old) (S.left script.new) result.status result.run }
     ensures read_fault { SaysRead (S.faults script.old) (S.faults script.new) result.status }
     ensures write_fault { SaysWrite (K.faults out.old) (K.faults out.new) result.status }
@@ -226,7 +226,7 @@ pub fn worldrun<R: Threads + Sync, S: Source, K: Sink, P: Pace>(
 ) -> Ended
     ensures usage { (result.status ≡ status.Usage) ↔ (said words.now ≡ None) }
     ensures unread { result.status ≡ status.Usage → script.new ≡ script.old }
-    ensures script { IfSome (shape_said words.now) (λ shape. SaysScript shape (S.left script.old) result.status result.run) }
+    ensures script { IfSome (shape_said words.now) (λ shape. NamesFault shape (S.left script.old) result.status) }
     ensures taken { SaysTaken (S.left script.old) (S.left script.new) result.status result.run }
     ensures read_fault { SaysRead (S.faults script.old) (S.faults script.new) result.status }
     ensures write_fault { SaysWrite (K.faults out.old) (K.faults out.new) result.status }
@@ -248,7 +248,8 @@ pub fn worldrun<R: Threads + Sync, S: Source, K: Sink, P: Pace>(
 }
 
 /// `worldrun` from bytes in memory to bytes in memory, where no call fails and the pace is told
-/// nothing. Without want of memory a script is played to its end.
+/// nothing. Without want of memory a script is played to its end. Here the bytes are told, so each
+/// clause of `worldrun` on bytes says something.
 pub fn run_in_memory<R: Threads + Sync>(
     rt: &R,
     alloc: Global,
@@ -259,6 +260,11 @@ pub fn run_in_memory<R: Threads + Sync>(
     ensures sure { IsSure result.status }
     ensures complete { IfSome (shape_said words.now) (λ shape. TellsScript shape (Some script.old) → (result.status ≡ status.Ok) ⊎ (result.status ≡ status.Memory)) }
     ensures outcome { IfSome (shape_said words.now) (λ shape. OnDone result.status (WritesOutcome shape (Some script.old) (Some out.old) (Some out.new))) }
+    ensures headline { IfSome (said words.now) (λ w. OnDone result.status (Headline w (Some script.old) (Some script.new) (Some out.old) (Some out.new) result.run)) }
+    ensures early { IfSome (said words.now) (λ w. OnStopped result.status result.run (EndsEarly w (Some script.old) (Some out.old) (Some out.new) result.lines)) }
+    ensures script { IfSome (shape_said words.now) (λ shape. NamesFault shape (Some script.old) result.status) }
+    ensures taken { SaysTaken (Some script.old) (Some script.new) result.status result.run }
+    ensures lines { CountsLines (Some out.old) (Some out.new) result.lines }
 {
     worldrun(rt, alloc, words, script, out, &NoPace)
 }
