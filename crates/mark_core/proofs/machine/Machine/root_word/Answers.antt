@@ -1,0 +1,24 @@
+use Rattle.std.proofs.Common.{◌≡◌, ℕ, ◌+◌, ◌*◌, ◌<◌, ◌^◌, Bool, ap, sym, subst, ◌∙◌, arith, refl}
+use Rattle.mark_core.specs.Shown.{state, sizes}
+use Rattle.mark_core.specs.Words.{bit, bits_word, root_bit}
+use Rattle.mark_core.proofs.Bits.{bits-more, bits-below}
+use Rattle.mark_core.proofs.machine.Machine.root_word.Goals as goal
+
+pub loop-i-init : goal.loop-i-init
+unfolding bits_word
+loop-i-init c = refl
+
+pub with_bit-bits-requires-clause-word : goal.with_bit-bits-requires-clause-word
+with_bit-bits-requires-clause-word c = subst (λ (w : ℕ). w < 2 ^ c.loop-i.i) (sym c.loop-i.invariant) (bits-below (λ k. root_bit (sizes c.args.self.now.shape) (state c.args.self.now) (64 * c.args.word + k)) c.loop-i.i)
+
+pub loop-i-preserved : goal.loop-i-preserved
+loop-i-preserved c =
+    c.with_bit-bits.ensures
+    ∙ (ap (λ (w : ℕ). w + bit c.root_bit.result * 2 ^ c.loop-i.i) c.loop-i.invariant
+    ∙ (ap (λ (b : Bool). bits_word (λ k. root_bit (sizes c.args.self.now.shape) (state c.args.self.now) (64 * c.args.word + k)) c.loop-i.i + bit b * 2 ^ c.loop-i.i) c.root_bit.ensures
+    ∙ sym (bits-more (λ k. root_bit (sizes c.args.self.now.shape) (state c.args.self.now) (64 * c.args.word + k)) c.loop-i.i)))
+
+pub returns : goal.returns
+returns c =
+    let end : c.loop-i.i ≡ 64 = omega arith in
+    c.loop-i.invariant ∙ ap (bits_word (λ k. root_bit (sizes c.args.self.now.shape) (state c.args.self.now) (64 * c.args.word + k))) end

@@ -1,0 +1,16 @@
+pub mod Changes
+pub mod Machine
+pub mod Steps
+pub mod Lawful
+pub mod Start
+pub mod Reach
+pub mod Progress
+pub mod Makes
+pub mod Laws
+pub mod Words
+pub mod Sets
+pub mod Units
+pub mod Shown
+pub mod View
+pub mod Numbered
+pub mod Runs

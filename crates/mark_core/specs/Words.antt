@@ -1,0 +1,62 @@
+-- The words that the machine shows, in the layouts of a heap in atomic words.
+use Rattle.std.specs.Prelude.{ℕ, ◌+◌, ◌*◌, ◌/◌, ◌^◌, zero, suc, nat_lt, Bool, ◌&&◌, not, if◌then◌else◌, Option, Some, None, is_some}
+use Rattle.mark_core.specs.Machine.{Phase, Idle, Marking, Gathering, Cell, CellOf, StrongOf, Place, Sizes, strong_place, Core, row_bit, frames}
+use Rattle.mark_core.specs.Steps.{Step, Shade, SwapCell, LoadCell, AddRow, TakeRow, LoadRow, LoadHead, DoomHead, RootBit}
+
+abbrev pub phase_number : Phase → ℕ
+phase_number Idle = 0
+phase_number Marking = 1
+phase_number Gathering = 2
+
+abbrev pub bit : Bool → ℕ
+bit b = if b then 1 else 0
+
+abbrev pub gate_word : Sizes → Core → ℕ
+gate_word z c = phase_number c.phase + 4 * bit c.parity + 8 * bit c.dirty + 256 * frames z c
+
+-- whether the colour of a unit is set: it equals the parity exactly where the unit is marked
+abbrev pub colour : Core → ℕ → Bool
+colour c u = if c.marked u then c.parity else not c.parity
+
+-- Live or Doomed, and the colour
+abbrev pub head_word : Core → ℕ → ℕ
+head_word c u = (if c.doomed u then 2 else 1) + 8 * bit (colour c u)
+
+-- 0 for none, else 1 and the unit
+abbrev pub cell_word : Option ℕ → ℕ
+cell_word None = 0
+cell_word (Some u) = 1 + u
+
+-- the word with these bits, of which it has so many
+unfoldable pub bits_word : (ℕ → Bool) → ℕ → ℕ
+bits_word f zero = 0
+bits_word f (suc n) = bits_word f n + bit (f n) * 2 ^ n
+
+-- bit i of word w of a row stands for unit 64 * w + i
+abbrev pub row_word : (ℕ → Place) → ℕ → ℕ → ℕ
+row_word place row word = bits_word (λ i. row_bit place row (64 * word + i)) 64
+
+-- and so it does in a word of the root set
+abbrev pub root_bit : Sizes → Core → ℕ → Bool
+root_bit z c p = nat_lt p z.units && is_some (c.root p)
+
+abbrev pub root_word : Sizes → Core → ℕ → ℕ
+root_word z c word = bits_word (λ i. root_bit z c (64 * word + i)) 64
+
+-- what a cell or strong pointer names
+abbrev pub target_of : Sizes → Core → Cell → Option ℕ
+target_of z c (CellOf u n) = c.cell n
+target_of z c (StrongOf lane number) = c.root (strong_place z lane number)
+
+-- the word that a step finds
+abbrev pub old_word : Sizes → Core → Step → ℕ
+old_word z c (Shade u) = head_word c u
+old_word z c (LoadHead u) = head_word c u
+old_word z c (DoomHead u) = head_word c u
+old_word z c (SwapCell cell to) = cell_word (target_of z c cell)
+old_word z c (LoadCell cell) = cell_word (target_of z c cell)
+old_word z c (AddRow row u) = row_word c.place row (u / 64)
+old_word z c (TakeRow row word) = row_word c.place row word
+old_word z c (LoadRow row word) = row_word c.place row word
+old_word z c (RootBit bit u on) = root_word z c (bit / 64)
+old_word z c _ = gate_word z c
