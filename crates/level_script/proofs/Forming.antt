@@ -1,5 +1,5 @@
 -- The forms of words.
-use Rattle.std.proofs.Common.{◌≡◌, ℕ, ◌+◌, ◌-◌, ◌*◌, ◌^◌, ◌<◌, ◌≤◌, List, [], ◌∷◌, refl, sym, ap, ◌∙◌, Bool, true, false, ◌&&◌, map, length, take, get_or, arith, suc, zero, lit<}
+use Rattle.std.proofs.Common.{◌≡◌, ℕ, ◌+◌, ◌-◌, ◌*◌, ◌^◌, ◌<◌, ◌≤◌, List, [], ◌∷◌, refl, sym, ap, ◌∙◌, Bool, true, false, not, ◌&&◌, cond, map, length, take, get_or, arith, suc, zero, lit<}
 use Rattle.std.specs.Prelude.{nat_lt}
 use Rattle.std.specs.List.{list_all}
 use Rattle.std.specs.Str.{IsUtf8, is_utf8}
@@ -9,7 +9,7 @@ use Rattle.std.proofs.lemmas.Int.Digits.{number_lt, number_more}
 use Rattle.std.proofs.Math.Nat.{pow-le-pow_right}
 use Rattle.std.proofs.lemmas.List.{take-map, length-map, length-take-le}
 use Rattle.std.proofs.lemmas.Str.{IsUtf8-from_ascii, IsUtf8-from_is_utf8}
-use Rattle.level_script.specs.Forms.{is_identifier, begins_identifier, continues_identifier, written}
+use Rattle.level_script.specs.Forms.{is_identifier, begins_identifier, continues_identifier, written, front_length, front}
 
 -- two tests that hold together
 both : (a b : Bool) → (a && b) ≡ true → (a ≡ true) × (b ≡ true)
@@ -93,3 +93,27 @@ not_true false h = refl
 -- bytes that are no text fail the test
 pub not_utf8 : (bs : List ℕ) → (IsUtf8 bs → ⊥) → is_utf8 bs ≡ false
 not_utf8 bs h = not_true (is_utf8 bs) (λ e. h (IsUtf8-from_is_utf8 bs e))
+
+-- ---- bytes in front
+
+-- one more byte in front, or none
+front_step : (b : ℕ) (bs : List ℕ) (n : ℕ) (t : Bool) → continues_identifier b ≡ t → list_all continues_identifier (take n bs) ≡ true → list_all continues_identifier (take (cond (not (not t)) (1 + n) 0) (b ∷ bs)) ≡ true
+front_step b bs n true is rest =
+    let more : 1 + n ≡ suc n = omega arith in
+    ap (λ k. list_all continues_identifier (take k (b ∷ bs))) more ∙ (λ i. is i && rest i)
+front_step b bs n false is rest = refl
+
+-- the bytes in front continue an identifier
+pub front_continues : (word : List ℕ) → list_all continues_identifier (front word) ≡ true
+front_continues [] = refl
+front_continues (b ∷ bs) = front_step b bs (front_length bs) (continues_identifier b) refl (front_continues bs)
+
+-- bytes that continue an identifier are one by the first and by their number
+pub front_is : (b : ℕ) (bs : List ℕ) → list_all continues_identifier (b ∷ bs) ≡ true → is_identifier (b ∷ bs) ≡ begins_identifier b && nat_lt (length bs) 64
+front_is b bs h =
+    let parts = both (continues_identifier b) (list_all continues_identifier bs) h in
+    go (begins_identifier b) (list_all continues_identifier bs) parts.1
+  where
+    go : (t all : Bool) → all ≡ true → (t && all && nat_lt (length bs) 64) ≡ (t && nat_lt (length bs) 64)
+    go true all e = ap (λ a. a && nat_lt (length bs) 64) e
+    go false all e = refl

@@ -12,15 +12,15 @@ use Rattle.world_model.specs.declared.kind.ClassId.{ClassId}
 use Rattle.std.specs.List.{AllByRecursion}
 use Rattle.class_schema.specs.Class.{Class, Schema, Declaration}
 use Rattle.class_schema.specs.Ancestry.{object, class_at}
-use Rattle.class_schema.specs.Table.{find_class, has_field, added, admitted, added_below, child, with_own, with_field, field_added, field_refusal, unless_refused, is_named, id_of}
+use Rattle.class_schema.specs.Table.{find_class, added, admitted, added_below, child, with_own, with_field, field_added, field_refusal, unless_refused, is_named, id_of}
 use Rattle.class_schema.specs.declared.field.FieldKind.{FieldKind}
 use Rattle.class_schema.specs.declared.refusal.SchemaErr.{SchemaErr}
 use Rattle.level_script.specs.Commands.{said_by_line}
-use Rattle.level_script.specs.Context.{start, with_line, with_classes, elements_in, kind_found, field_known, field_counted, with_lane, lane_at, lane_of, act_turn, if_said, turn, script_from}
+use Rattle.level_script.specs.Context.{start, with_line, with_classes, with_named, elements_in, kind_found, field_known, field_counted, with_lane, lane_at, lane_of, act_turn, if_said, turn, script_from}
 use Rattle.level_script.specs.Frames.{opened_after, fits_spot, fits_target, fits_lane, fits, frames_after, are_framed, IsAtOnce, IsNamed, IsPlayable}
 use Rattle.level_script.specs.Forms.{is_identifier}
 use Rattle.level_script.proofs.Naming.{SaysName, SaysNameIfOk, identifier_bytes, line_says}
-use Rattle.level_script.specs.Lanes.{closed_lane, count_of, bound_new, root_of, bound_var, if_bound, element_in, spot_with, spot_found, Stepped, naming_none, bound_target, set_at, set_in, get_at, get_in, put_at, put_in, take_at, take_in, print_of, open_step, close_step, new_step, root_step, print_step, lane_step, lane_index}
+use Rattle.level_script.specs.Lanes.{closed_lane, count_of, bound_new, root_of, bound_var, if_bound, element_in, spot_with, spot_found, bound_target, set_at, set_in, get_at, get_in, put_at, put_in, take_at, take_in, print_of, open_step, close_step, new_step, root_step, print_step, lane_step, lane_index}
 use Rattle.level_script.specs.Lines.{input_lines}
 use Rattle.level_script.specs.Names.{number_of_name, number_in, with_name, has_number}
 use Rattle.level_script.specs.Reading.{line_turn, read_from, read_on, fault_at, outcome_of, script_of, script_of_lines}
@@ -125,13 +125,6 @@ class_below classes name id e = position_below (is_named name) classes id.0 (cla
 
 -- ---- a step of a lane
 
--- what a step of a lane does to its frame, its variables and the names of fields, and that its command fits
-record StepFacts (classes : List Class) (lane : LaneNames) (fields : List (List ℕ)) (done : Stepped) : Type 0 where
-  opened : done.lane.opened ≡ opened_after done.command lane.opened
-  grows : count_of lane ≤ count_of done.lane
-  named : length fields ≤ length done.fields
-  fit : (vars count names : ℕ) → count_of done.lane ≤ vars → length classes ≤ count → length done.fields ≤ names → fits_lane vars count names lane.opened done.command ≡ true
-
 -- what is below is below more
 below_true : (m n k : ℕ) → m < n → n ≤ k → nat_lt m k ≡ true
 below_true m n k h most = lt-ltb m k (omega (arith, h, most))
@@ -140,46 +133,40 @@ below_true m n k h most = lt-ltb m k (omega (arith, h, most))
 and_both : (a b : Bool) → a ≡ true → b ≡ true → (a && b) ≡ true
 and_both a b e f = (λ t. e t && f t)
 
--- a line that names no field
-record PairFacts (classes : List Class) (lane left : LaneNames) (command : Cmd) : Type 0 where
+-- what a step of a lane does to its frame and its variables, and that its command fits
+record StepFacts (classes : List Class) (fields : List (List ℕ)) (lane left : LaneNames) (command : Cmd) : Type 0 where
   opened : left.opened ≡ opened_after command lane.opened
   grows : count_of lane ≤ count_of left
-  fit : (vars count names : ℕ) → count_of left ≤ vars → length classes ≤ count → fits_lane vars count names lane.opened command ≡ true
+  fit : (vars count names : ℕ) → count_of left ≤ vars → length classes ≤ count → length fields ≤ names → fits_lane vars count names lane.opened command ≡ true
 
-abbrev FactsOf : List Class → LaneNames → LaneNames × Cmd → Type 0
-FactsOf classes lane (left, command) = PairFacts classes lane left command
-
-naming_facts : (classes : List Class) (lane : LaneNames) (fields : List (List ℕ)) (r : Result (LaneNames × Cmd) Cause) (done : Stepped) → ((left : LaneNames × Cmd) → r ≡ Ok left → FactsOf classes lane left) → naming_none fields r ≡ Ok done → StepFacts classes lane fields done
-naming_facts classes lane fields (Err why) done facts e = err_ok e
-naming_facts classes lane fields (Ok (left, command)) done facts e =
-    let f = facts (left, command) refl in
-    subst (StepFacts classes lane fields) (ok_same e) (record { opened = f.opened; grows = f.grows; named = omega arith; fit = λ vars count names few some named. f.fit vars count names few some })
+abbrev FactsOf : List Class → List (List ℕ) → LaneNames → LaneNames × Cmd → Type 0
+FactsOf classes fields lane (left, command) = StepFacts classes fields lane left command
 
 -- the frame opens
-open_facts : (classes : List Class) (lane : LaneNames) (b : Bool) → lane.opened ≡ b → (left : LaneNames × Cmd) → cond b (Err cause.Frame) (Ok (record lane { opened = true }, cmd.Open)) ≡ Ok left → FactsOf classes lane left
-open_facts classes lane true is left e = err_ok e
-open_facts classes lane false is left e = subst (FactsOf classes lane) (ok_same e) (record { opened = refl; grows = omega arith; fit = λ vars count names few some. ap not is })
+open_facts : (classes : List Class) (fields : List (List ℕ)) (lane : LaneNames) (b : Bool) → lane.opened ≡ b → (left : LaneNames × Cmd) → cond b (Err cause.Frame) (Ok (record lane { opened = true }, cmd.Open)) ≡ Ok left → FactsOf classes fields lane left
+open_facts classes fields lane true is left e = err_ok e
+open_facts classes fields lane false is left e = subst (FactsOf classes fields lane) (ok_same e) (record { opened = refl; grows = omega arith; fit = λ vars count names few some named. ap not is })
 
 -- the frame closes
-close_facts : (classes : List Class) (lane : LaneNames) (b : Bool) → lane.opened ≡ b → (left : LaneNames × Cmd) → cond b (Ok (record { opened = false; names = lane.names; bound = [] }, cmd.Close)) (Err cause.Frame) ≡ Ok left → FactsOf classes lane left
-close_facts classes lane false is left e = err_ok e
-close_facts classes lane true is left e = subst (FactsOf classes lane) (ok_same e) (record { opened = refl; grows = omega arith; fit = λ vars count names few some. is })
+close_facts : (classes : List Class) (fields : List (List ℕ)) (lane : LaneNames) (b : Bool) → lane.opened ≡ b → (left : LaneNames × Cmd) → cond b (Ok (record { opened = false; names = lane.names; bound = [] }, cmd.Close)) (Err cause.Frame) ≡ Ok left → FactsOf classes fields lane left
+close_facts classes fields lane false is left e = err_ok e
+close_facts classes fields lane true is left e = subst (FactsOf classes fields lane) (ok_same e) (record { opened = refl; grows = omega arith; fit = λ vars count names few some named. is })
 
 -- a variable is bound to a class that is known
-bound_facts : (classes : List Class) (lane : LaneNames) (var class : List ℕ) (o : Option ClassId) → lane.opened ≡ true → find_class classes class ≡ o → (left : LaneNames × Cmd) → bound_new lane var o ≡ Ok left → FactsOf classes lane left
-bound_facts classes lane var class None is found left e = err_ok e
-bound_facts classes lane var class (Some id) is found left e =
-    subst (FactsOf classes lane) (ok_same e) (record {
+bound_facts : (classes : List Class) (fields : List (List ℕ)) (lane : LaneNames) (var class : List ℕ) (o : Option ClassId) → lane.opened ≡ true → find_class classes class ≡ o → (left : LaneNames × Cmd) → bound_new lane var o ≡ Ok left → FactsOf classes fields lane left
+bound_facts classes fields lane var class None is found left e = err_ok e
+bound_facts classes fields lane var class (Some id) is found left e =
+    subst (FactsOf classes fields lane) (ok_same e) (record {
       opened = refl;
       grows = names_grow lane.names var;
-      fit = λ vars count names few some.
+      fit = λ vars count names few some named.
           (λ t. is t && below_true (number_in lane.names var) (length (with_name lane.names var)) vars (number_below lane.names var) few t && below_true id.0 (length classes) count (class_below classes class id found) some t);
     })
 
 -- a variable is bound
-new_facts : (classes : List Class) (lane : LaneNames) (var class : List ℕ) (b : Bool) → lane.opened ≡ b → (left : LaneNames × Cmd) → cond b (bound_new lane var (find_class classes class)) (Err cause.Frame) ≡ Ok left → FactsOf classes lane left
-new_facts classes lane var class false is left e = err_ok e
-new_facts classes lane var class true is left e = bound_facts classes lane var class (find_class classes class) is refl left e
+new_facts : (classes : List Class) (fields : List (List ℕ)) (lane : LaneNames) (var class : List ℕ) (b : Bool) → lane.opened ≡ b → (left : LaneNames × Cmd) → cond b (bound_new lane var (find_class classes class)) (Err cause.Frame) ≡ Ok left → FactsOf classes fields lane left
+new_facts classes fields lane var class false is left e = err_ok e
+new_facts classes fields lane var class true is left e = bound_facts classes fields lane var class (find_class classes class) is refl left e
 
 -- a variable that is bound has its number
 if_bound_some : (bound : List ℕ) (o : Option ℕ) (n : ℕ) → if_bound bound o ≡ Some n → o ≡ Some n
@@ -195,42 +182,46 @@ bound_below : (lane : LaneNames) (var : List ℕ) (n : ℕ) → bound_var lane v
 bound_below lane var n e = found_below lane.names var n (if_bound_some lane.bound (number_of_name lane.names var) n e)
 
 -- the object of a variable that is bound becomes a root, or is one no longer
-rooted_facts : (classes : List Class) (lane : LaneNames) (var : List ℕ) (on : Bool) (o : Option ℕ) → lane.opened ≡ true → bound_var lane var ≡ o → (left : LaneNames × Cmd) → root_of lane on o ≡ Ok left → FactsOf classes lane left
-rooted_facts classes lane var on None is found left e = err_ok e
-rooted_facts classes lane var on (Some n) is found left e =
+rooted_facts : (classes : List Class) (fields : List (List ℕ)) (lane : LaneNames) (var : List ℕ) (on : Bool) (o : Option ℕ) → lane.opened ≡ true → bound_var lane var ≡ o → (left : LaneNames × Cmd) → root_of lane on o ≡ Ok left → FactsOf classes fields lane left
+rooted_facts classes fields lane var on None is found left e = err_ok e
+rooted_facts classes fields lane var on (Some n) is found left e =
     let below = bound_below lane var n found in
-    subst (FactsOf classes lane) (ok_same e) (record { opened = refl; grows = omega arith; fit = λ vars count names few some. (λ t. is t && below_true n (length lane.names) vars below few t) })
+    subst (FactsOf classes fields lane) (ok_same e) (record { opened = refl; grows = omega arith; fit = λ vars count names few some named. (λ t. is t && below_true n (length lane.names) vars below few t) })
 
-root_facts : (classes : List Class) (lane : LaneNames) (var : List ℕ) (on b : Bool) → lane.opened ≡ b → (left : LaneNames × Cmd) → cond b (root_of lane on (bound_var lane var)) (Err cause.Frame) ≡ Ok left → FactsOf classes lane left
-root_facts classes lane var on false is left e = err_ok e
-root_facts classes lane var on true is left e = rooted_facts classes lane var on (bound_var lane var) is refl left e
+root_facts : (classes : List Class) (fields : List (List ℕ)) (lane : LaneNames) (var : List ℕ) (on b : Bool) → lane.opened ≡ b → (left : LaneNames × Cmd) → cond b (root_of lane on (bound_var lane var)) (Err cause.Frame) ≡ Ok left → FactsOf classes fields lane left
+root_facts classes fields lane var on false is left e = err_ok e
+root_facts classes fields lane var on true is left e = rooted_facts classes fields lane var on (bound_var lane var) is refl left e
 
 -- the object of a variable that is bound is told
-printed_facts : (classes : List Class) (lane : LaneNames) (var : List ℕ) (o : Option ℕ) → lane.opened ≡ true → bound_var lane var ≡ o → (left : LaneNames × Cmd) → print_of lane o ≡ Ok left → FactsOf classes lane left
-printed_facts classes lane var None is found left e = err_ok e
-printed_facts classes lane var (Some n) is found left e =
+printed_facts : (classes : List Class) (fields : List (List ℕ)) (lane : LaneNames) (var : List ℕ) (o : Option ℕ) → lane.opened ≡ true → bound_var lane var ≡ o → (left : LaneNames × Cmd) → print_of lane o ≡ Ok left → FactsOf classes fields lane left
+printed_facts classes fields lane var None is found left e = err_ok e
+printed_facts classes fields lane var (Some n) is found left e =
     let below = bound_below lane var n found in
-    subst (FactsOf classes lane) (ok_same e) (record { opened = refl; grows = omega arith; fit = λ vars count names few some. (λ t. is t && below_true n (length lane.names) vars below few t) })
+    subst (FactsOf classes fields lane) (ok_same e) (record { opened = refl; grows = omega arith; fit = λ vars count names few some named. (λ t. is t && below_true n (length lane.names) vars below few t) })
 
-print_facts : (classes : List Class) (lane : LaneNames) (var : List ℕ) (b : Bool) → lane.opened ≡ b → (left : LaneNames × Cmd) → cond b (print_of lane (bound_var lane var)) (Err cause.Frame) ≡ Ok left → FactsOf classes lane left
-print_facts classes lane var false is left e = err_ok e
-print_facts classes lane var true is left e = printed_facts classes lane var (bound_var lane var) is refl left e
+print_facts : (classes : List Class) (fields : List (List ℕ)) (lane : LaneNames) (var : List ℕ) (b : Bool) → lane.opened ≡ b → (left : LaneNames × Cmd) → cond b (print_of lane (bound_var lane var)) (Err cause.Frame) ≡ Ok left → FactsOf classes fields lane left
+print_facts classes fields lane var false is left e = err_ok e
+print_facts classes fields lane var true is left e = printed_facts classes fields lane var (bound_var lane var) is refl left e
 
 -- ---- elements of fields
 
 -- where a spot is found, its variable is bound and its field has a name
-record SpotFacts (lane : LaneNames) (fields : List (List ℕ)) (name : List ℕ) (spot : Spot) : Type 0 where
+record SpotFacts (lane : LaneNames) (fields : List (List ℕ)) (spot : Spot) : Type 0 where
   var : spot.var < count_of lane
-  field : spot.field < length (with_name fields name)
+  field : spot.field < length fields
 
-spot_facts : (lane : LaneNames) (fields : List (List ℕ)) (place : Place) (element : ℕ) (b : Bool) (o : Option ℕ) (spot : Spot) → bound_var lane place.var ≡ o → spot_with fields place.field element b o ≡ Some spot → SpotFacts lane fields place.field spot
-spot_facts lane fields place element false o spot is e = absurd cc
-spot_facts lane fields place element true None spot is e = absurd cc
-spot_facts lane fields place element true (Some var) spot is e = subst (SpotFacts lane fields place.field) (some_same e) (record { var = bound_below lane place.var var is; field = number_below fields place.field })
+spot_facts : (lane : LaneNames) (fields : List (List ℕ)) (place : Place) (element : ℕ) (o f : Option ℕ) (spot : Spot) → bound_var lane place.var ≡ o → number_of_name fields place.field ≡ f → spot_with element o f ≡ Some spot → SpotFacts lane fields spot
+spot_facts lane fields place element None f spot is named e = absurd cc
+spot_facts lane fields place element (Some var) None spot is named e = absurd cc
+spot_facts lane fields place element (Some var) (Some field) spot is named e = subst (SpotFacts lane fields) (some_same e) (record { var = bound_below lane place.var var is; field = found_below fields place.field field named })
+
+-- each spot that is found
+found_facts : (lane : LaneNames) (fields : List (List ℕ)) (place : Place) (element : ℕ) (spot : Spot) → spot_found lane fields place element ≡ Some spot → SpotFacts lane fields spot
+found_facts lane fields place element spot e = spot_facts lane fields place element (bound_var lane place.var) (number_of_name fields place.field) spot refl refl e
 
 -- it fits, where there are no fewer variables and names
-spot_fits : (lane : LaneNames) (fields : List (List ℕ)) (name : List ℕ) (spot : Spot) (vars names : ℕ) → SpotFacts lane fields name spot → count_of lane ≤ vars → length (with_name fields name) ≤ names → fits_spot vars names spot ≡ true
-spot_fits lane fields name spot vars names h few named = and_both _ _ (below_true spot.var (count_of lane) vars h.var few) (below_true spot.field (length (with_name fields name)) names h.field named)
+spot_fits : (lane : LaneNames) (fields : List (List ℕ)) (spot : Spot) (vars names : ℕ) → SpotFacts lane fields spot → count_of lane ≤ vars → length fields ≤ names → fits_spot vars names spot ≡ true
+spot_fits lane fields spot vars names h few named = and_both _ _ (below_true spot.var (count_of lane) vars h.var few) (below_true spot.field (length fields) names h.field named)
 
 target_fits : (lane : LaneNames) (to : Option (List ℕ)) (target : Option ℕ) (vars : ℕ) → bound_target lane to ≡ Some target → count_of lane ≤ vars → fits_target vars target ≡ true
 target_fits lane None target vars e few = subst (λ (t : Option ℕ). fits_target vars t ≡ true) (some_same e) refl
@@ -240,101 +231,86 @@ target_fits lane (Some name) target vars e few = go (bound_var lane name) refl e
     go None is e = absurd cc
     go (Some n) is e = subst (λ (t : Option ℕ). fits_target vars t ≡ true) (some_same e) (below_true n (count_of lane) vars (bound_below lane name n is) few)
 
-module _ (classes : List Class) (lane : LaneNames) (fields : List (List ℕ)) where
-  -- what an answer to a line with a spot says
-  abbrev Fits : Result Stepped Cause → Type 0
-  Fits r = (done : Stepped) → r ≡ Ok done → StepFacts classes lane fields done
+module _ (classes : List Class) (fields : List (List ℕ)) (lane : LaneNames) where
+  -- what an answer to a line says
+  abbrev Fits : Result (LaneNames × Cmd) Cause → Type 0
+  Fits r = (left : LaneNames × Cmd) → r ≡ Ok left → FactsOf classes fields lane left
 
-  set_at_facts : (place : Place) (to : Option (List ℕ)) (s : Option Spot) (t : Option (Option ℕ)) → lane.opened ≡ true → ((spot : Spot) → s ≡ Some spot → SpotFacts lane fields place.field spot) → bound_target lane to ≡ t → Fits (set_at lane fields place.field s t)
-  set_at_facts place to None t is spots target done e = err_ok e
-  set_at_facts place to (Some spot) None is spots target done e = err_ok e
-  set_at_facts place to (Some spot) (Some var) is spots target done e =
-      subst (StepFacts classes lane fields) (ok_same e) (record {
+  -- a line that needs an open frame
+  in_frame : (b : Bool) (r : Result (LaneNames × Cmd) Cause) → lane.opened ≡ b → (lane.opened ≡ true → Fits r) → Fits (cond b r (Err cause.Frame))
+  in_frame false r is fits left e = err_ok e
+  in_frame true r is fits left e = fits is left e
+
+  set_at_facts : (to : Option (List ℕ)) (s : Option Spot) (t : Option (Option ℕ)) → lane.opened ≡ true → ((spot : Spot) → s ≡ Some spot → SpotFacts lane fields spot) → bound_target lane to ≡ t → Fits (set_at lane s t)
+  set_at_facts to None t is spots target left e = err_ok e
+  set_at_facts to (Some spot) None is spots target left e = err_ok e
+  set_at_facts to (Some spot) (Some var) is spots target left e =
+      subst (FactsOf classes fields lane) (ok_same e) (record {
         opened = refl;
         grows = omega arith;
-        named = names_grow fields place.field;
-        fit = λ vars count names few some named. and_both _ _ (and_both _ _ is (spot_fits lane fields place.field spot vars names (spots spot refl) few named)) (target_fits lane to var vars target few);
+        fit = λ vars count names few some named. and_both _ _ (and_both _ _ is (spot_fits lane fields spot vars names (spots spot refl) few named)) (target_fits lane to var vars target few);
       })
 
-  set_facts : (place : Place) (to : Option (List ℕ)) (o : Option ℕ) (b : Bool) → lane.opened ≡ b → ((element : ℕ) (spot : Spot) → spot_found classes lane fields place element ≡ Some spot → SpotFacts lane fields place.field spot) → Fits (set_in classes lane fields place to o)
-  set_facts place to None b is spots done e = err_ok e
-  set_facts place to (Some element) b is spots done e = go b is e
-    where
-      go : (b : Bool) → lane.opened ≡ b → cond lane.opened (set_at lane fields place.field (spot_found classes lane fields place element) (bound_target lane to)) (Err cause.Frame) ≡ Ok done → StepFacts classes lane fields done
-      go false is e = err_ok (ap (λ (c : Bool). cond c (set_at lane fields place.field (spot_found classes lane fields place element) (bound_target lane to)) (Err cause.Frame)) (sym is) ∙ e)
-      go true is e = set_at_facts place to (spot_found classes lane fields place element) (bound_target lane to) is (spots element) refl done (ap (λ (c : Bool). cond c (set_at lane fields place.field (spot_found classes lane fields place element) (bound_target lane to)) (Err cause.Frame)) (sym is) ∙ e)
+  set_facts : (place : Place) (to : Option (List ℕ)) (o : Option ℕ) → Fits (set_in fields lane place to o)
+  set_facts place to None left e = err_ok e
+  set_facts place to (Some element) left e =
+      in_frame lane.opened _ refl (λ is. set_at_facts to (spot_found lane fields place element) (bound_target lane to) is (found_facts lane fields place element) refl) left e
 
-  get_at_facts : (var : List ℕ) (place : Place) (s : Option Spot) → lane.opened ≡ true → ((spot : Spot) → s ≡ Some spot → SpotFacts lane fields place.field spot) → Fits (get_at lane fields place.field var s)
-  get_at_facts var place None is spots done e = err_ok e
-  get_at_facts var place (Some spot) is spots done e =
-      subst (StepFacts classes lane fields) (ok_same e) (record {
+  get_at_facts : (var : List ℕ) (s : Option Spot) → lane.opened ≡ true → ((spot : Spot) → s ≡ Some spot → SpotFacts lane fields spot) → Fits (get_at lane var s)
+  get_at_facts var None is spots left e = err_ok e
+  get_at_facts var (Some spot) is spots left e =
+      subst (FactsOf classes fields lane) (ok_same e) (record {
         opened = refl;
         grows = names_grow lane.names var;
-        named = names_grow fields place.field;
         fit = λ vars count names few some named. and_both _ _ (and_both _ _ is (below_true (number_in lane.names var) (length (with_name lane.names var)) vars (number_below lane.names var) few))
-            (spot_fits lane fields place.field spot vars names (spots spot refl) (omega (arith, few, names_grow lane.names var)) named);
+            (spot_fits lane fields spot vars names (spots spot refl) (omega (arith, few, names_grow lane.names var)) named);
       })
 
-  get_facts : (var : List ℕ) (place : Place) (o : Option ℕ) (b : Bool) → lane.opened ≡ b → ((element : ℕ) (spot : Spot) → spot_found classes lane fields place element ≡ Some spot → SpotFacts lane fields place.field spot) → Fits (get_in classes lane fields var place o)
-  get_facts var place None b is spots done e = err_ok e
-  get_facts var place (Some element) b is spots done e = go b is e
-    where
-      go : (b : Bool) → lane.opened ≡ b → cond lane.opened (get_at lane fields place.field var (spot_found classes lane fields place element)) (Err cause.Frame) ≡ Ok done → StepFacts classes lane fields done
-      go false is e = err_ok (ap (λ (c : Bool). cond c (get_at lane fields place.field var (spot_found classes lane fields place element)) (Err cause.Frame)) (sym is) ∙ e)
-      go true is e = get_at_facts var place (spot_found classes lane fields place element) is (spots element) done (ap (λ (c : Bool). cond c (get_at lane fields place.field var (spot_found classes lane fields place element)) (Err cause.Frame)) (sym is) ∙ e)
+  get_facts : (var : List ℕ) (place : Place) (o : Option ℕ) → Fits (get_in fields lane var place o)
+  get_facts var place None left e = err_ok e
+  get_facts var place (Some element) left e =
+      in_frame lane.opened _ refl (λ is. get_at_facts var (spot_found lane fields place element) is (found_facts lane fields place element)) left e
 
-  put_at_facts : (place : Place) (value : ℕ) (s : Option Spot) → lane.opened ≡ true → ((spot : Spot) → s ≡ Some spot → SpotFacts lane fields place.field spot) → Fits (put_at lane fields place.field value s)
-  put_at_facts place value None is spots done e = err_ok e
-  put_at_facts place value (Some spot) is spots done e =
-      subst (StepFacts classes lane fields) (ok_same e) (record {
+  put_at_facts : (value : ℕ) (s : Option Spot) → lane.opened ≡ true → ((spot : Spot) → s ≡ Some spot → SpotFacts lane fields spot) → Fits (put_at lane value s)
+  put_at_facts value None is spots left e = err_ok e
+  put_at_facts value (Some spot) is spots left e =
+      subst (FactsOf classes fields lane) (ok_same e) (record {
         opened = refl;
         grows = omega arith;
-        named = names_grow fields place.field;
-        fit = λ vars count names few some named. and_both _ _ is (spot_fits lane fields place.field spot vars names (spots spot refl) few named);
+        fit = λ vars count names few some named. and_both _ _ is (spot_fits lane fields spot vars names (spots spot refl) few named);
       })
 
-  put_facts : (place : Place) (value : Option ℕ) (o : Option ℕ) (b : Bool) → lane.opened ≡ b → ((element : ℕ) (spot : Spot) → spot_found classes lane fields place element ≡ Some spot → SpotFacts lane fields place.field spot) → Fits (put_in classes lane fields place o value)
-  put_facts place value None b is spots done e = err_ok e
-  put_facts place None (Some element) b is spots done e = err_ok e
-  put_facts place (Some value) (Some element) b is spots done e = go b is e
-    where
-      go : (b : Bool) → lane.opened ≡ b → cond lane.opened (put_at lane fields place.field value (spot_found classes lane fields place element)) (Err cause.Frame) ≡ Ok done → StepFacts classes lane fields done
-      go false is e = err_ok (ap (λ (c : Bool). cond c (put_at lane fields place.field value (spot_found classes lane fields place element)) (Err cause.Frame)) (sym is) ∙ e)
-      go true is e = put_at_facts place value (spot_found classes lane fields place element) is (spots element) done (ap (λ (c : Bool). cond c (put_at lane fields place.field value (spot_found classes lane fields place element)) (Err cause.Frame)) (sym is) ∙ e)
+  put_facts : (place : Place) (value : Option ℕ) (o : Option ℕ) → Fits (put_in fields lane place o value)
+  put_facts place value None left e = err_ok e
+  put_facts place None (Some element) left e = err_ok e
+  put_facts place (Some value) (Some element) left e =
+      in_frame lane.opened _ refl (λ is. put_at_facts value (spot_found lane fields place element) is (found_facts lane fields place element)) left e
 
-  take_at_facts : (place : Place) (s : Option Spot) → lane.opened ≡ true → ((spot : Spot) → s ≡ Some spot → SpotFacts lane fields place.field spot) → Fits (take_at lane fields place.field s)
-  take_at_facts place None is spots done e = err_ok e
-  take_at_facts place (Some spot) is spots done e =
-      subst (StepFacts classes lane fields) (ok_same e) (record {
+  take_at_facts : (s : Option Spot) → lane.opened ≡ true → ((spot : Spot) → s ≡ Some spot → SpotFacts lane fields spot) → Fits (take_at lane s)
+  take_at_facts None is spots left e = err_ok e
+  take_at_facts (Some spot) is spots left e =
+      subst (FactsOf classes fields lane) (ok_same e) (record {
         opened = refl;
         grows = omega arith;
-        named = names_grow fields place.field;
-        fit = λ vars count names few some named. and_both _ _ is (spot_fits lane fields place.field spot vars names (spots spot refl) few named);
+        fit = λ vars count names few some named. and_both _ _ is (spot_fits lane fields spot vars names (spots spot refl) few named);
       })
 
-  take_facts : (place : Place) (o : Option ℕ) (b : Bool) → lane.opened ≡ b → ((element : ℕ) (spot : Spot) → spot_found classes lane fields place element ≡ Some spot → SpotFacts lane fields place.field spot) → Fits (take_in classes lane fields place o)
-  take_facts place None b is spots done e = err_ok e
-  take_facts place (Some element) b is spots done e = go b is e
-    where
-      go : (b : Bool) → lane.opened ≡ b → cond lane.opened (take_at lane fields place.field (spot_found classes lane fields place element)) (Err cause.Frame) ≡ Ok done → StepFacts classes lane fields done
-      go false is e = err_ok (ap (λ (c : Bool). cond c (take_at lane fields place.field (spot_found classes lane fields place element)) (Err cause.Frame)) (sym is) ∙ e)
-      go true is e = take_at_facts place (spot_found classes lane fields place element) is (spots element) done (ap (λ (c : Bool). cond c (take_at lane fields place.field (spot_found classes lane fields place element)) (Err cause.Frame)) (sym is) ∙ e)
-
--- each spot that is found
-found_facts : (classes : List Class) (lane : LaneNames) (fields : List (List ℕ)) (place : Place) (element : ℕ) (spot : Spot) → spot_found classes lane fields place element ≡ Some spot → SpotFacts lane fields place.field spot
-found_facts classes lane fields place element spot e = spot_facts lane fields place element (has_field classes place.field) (bound_var lane place.var) spot refl e
+  take_facts : (place : Place) (o : Option ℕ) → Fits (take_in fields lane place o)
+  take_facts place None left e = err_ok e
+  take_facts place (Some element) left e =
+      in_frame lane.opened _ refl (λ is. take_at_facts (spot_found lane fields place element) is (found_facts lane fields place element)) left e
 
 -- each step
-step_facts : (classes : List Class) (lane : LaneNames) (fields : List (List ℕ)) (what : Does) (done : Stepped) → lane_step classes lane fields what ≡ Ok done → StepFacts classes lane fields done
-step_facts classes lane fields does.Open done e = naming_facts classes lane fields (open_step lane) done (open_facts classes lane lane.opened refl) e
-step_facts classes lane fields does.Close done e = naming_facts classes lane fields (close_step lane) done (close_facts classes lane lane.opened refl) e
-step_facts classes lane fields (does.New var class) done e = naming_facts classes lane fields (new_step classes lane var class) done (new_facts classes lane var class lane.opened refl) e
-step_facts classes lane fields (does.Root var on) done e = naming_facts classes lane fields (root_step lane var on) done (root_facts classes lane var on lane.opened refl) e
-step_facts classes lane fields (does.Set place to) done e = set_facts classes lane fields place to (element_in place.element) lane.opened refl (found_facts classes lane fields place) done e
-step_facts classes lane fields (does.Get var place) done e = get_facts classes lane fields var place (element_in place.element) lane.opened refl (found_facts classes lane fields place) done e
-step_facts classes lane fields (does.Put place value) done e = put_facts classes lane fields place value (element_in place.element) lane.opened refl (found_facts classes lane fields place) done e
-step_facts classes lane fields (does.Take place) done e = take_facts classes lane fields place (element_in place.element) lane.opened refl (found_facts classes lane fields place) done e
-step_facts classes lane fields (does.Print var) done e = naming_facts classes lane fields (print_step lane var) done (print_facts classes lane var lane.opened refl) e
+step_facts : (classes : List Class) (fields : List (List ℕ)) (lane : LaneNames) (what : Does) (left : LaneNames × Cmd) → lane_step classes fields lane what ≡ Ok left → FactsOf classes fields lane left
+step_facts classes fields lane does.Open left e = open_facts classes fields lane lane.opened refl left e
+step_facts classes fields lane does.Close left e = close_facts classes fields lane lane.opened refl left e
+step_facts classes fields lane (does.New var class) left e = new_facts classes fields lane var class lane.opened refl left e
+step_facts classes fields lane (does.Root var on) left e = root_facts classes fields lane var on lane.opened refl left e
+step_facts classes fields lane (does.Set place to) left e = set_facts classes fields lane place to (element_in place.element) left e
+step_facts classes fields lane (does.Get var place) left e = get_facts classes fields lane var place (element_in place.element) left e
+step_facts classes fields lane (does.Put place value) left e = put_facts classes fields lane place value (element_in place.element) left e
+step_facts classes fields lane (does.Take place) left e = take_facts classes fields lane place (element_in place.element) left e
+step_facts classes fields lane (does.Print var) left e = print_facts classes fields lane var lane.opened refl left e
 
 -- ---- lines after one another
 
@@ -376,25 +352,24 @@ record Good (limits : Limits) (c : Context) : Type 0 where
   at_once : AllByRecursion IsAtOnce c.classes.classes
   named : AllByRecursion IsNamed c.classes.classes
 
--- a context with other lanes and names of fields
-abbrev changed : Context → List LaneNames → List (List ℕ) → Context
-changed c lanes fields = record { classes = c.classes; in_header = c.in_header; lanes = lanes; fields = fields; lines = c.lines }
+-- a context with other lanes
+abbrev changed : Context → List LaneNames → Context
+changed c lanes = record { classes = c.classes; in_header = c.in_header; lanes = lanes; fields = c.fields; lines = c.lines }
 
 -- a line that fits keeps it
-good_push : (limits : Limits) (c : Context) (lanes : List LaneNames) (fields : List (List ℕ)) (number : ℕ) (by : Who) (command : Cmd) → Good limits c → length lanes ≡ length c.lanes →
+good_push : (limits : Limits) (c : Context) (lanes : List LaneNames) (number : ℕ) (by : Who) (command : Cmd) → Good limits c → length lanes ≡ length c.lanes →
     frames_after (map (λ lane. lane.opened) c.lanes) by command ≡ map (λ lane. lane.opened) lanes →
     ((l : ℕ) → count_of (get_or c.lanes l closed_lane) ≤ count_of (get_or lanes l closed_lane)) →
-    length c.fields ≤ length fields →
-    ((vars : List ℕ) (classes names : ℕ) → Within lanes vars → length c.classes.classes ≤ classes → length fields ≤ names → fits vars classes names (map (λ lane. lane.opened) c.lanes) by command ≡ true) →
-    Good limits (with_line (changed c lanes fields) number by command)
-good_push limits c lanes fields number by command g same frames grow more fit =
+    ((vars : List ℕ) (classes names : ℕ) → Within lanes vars → length c.classes.classes ≤ classes → length c.fields ≤ names → fits vars classes names (map (λ lane. lane.opened) c.lanes) by command ≡ true) →
+    Good limits (with_line (changed c lanes) number by command)
+good_push limits c lanes number by command g same frames grow fit =
     let line : Line = record { number = number; who = by; cmd = command } in
     record {
       lanes = same ∙ g.lanes;
       now = through_more (replicate limits.lanes false) c.lines line ∙ ap (λ f. frames_after f by command) g.now ∙ frames;
       framed = λ vars classes names within few named.
           framed_more vars classes names (replicate limits.lanes false) c.lines line
-          (g.framed vars classes names (λ l. omega (arith, grow l, within l)) few (omega (arith, more, named)))
+          (g.framed vars classes names (λ l. omega (arith, grow l, within l)) few named)
           (ap (λ f. fits vars classes names f by command) g.now ∙ fit vars classes names within few named);
       slots = g.slots;
       some = g.some;
@@ -417,34 +392,31 @@ set_grows (y ∷ ys) (suc i) x h zero = omega arith
 set_grows (y ∷ ys) (suc i) x h (suc l) = set_grows ys i x h l
 
 -- a line of a lane fits
-good_lane : (limits : Limits) (c : Context) (number i : ℕ) (lane : LaneNames) (done : Stepped) → Good limits c → slice_get c.lanes i ≡ Some lane → StepFacts c.classes.classes lane c.fields done →
-    Good limits (with_line (changed c (slice_set c.lanes i done.lane) done.fields) number (who.Lane i) done.command)
-good_lane limits c number i lane done g is facts =
-    let left = done.lane in
-    let command = done.command in
+good_lane : (limits : Limits) (c : Context) (number i : ℕ) (lane left : LaneNames) (command : Cmd) → Good limits c → slice_get c.lanes i ≡ Some lane → StepFacts c.classes.classes c.fields lane left command →
+    Good limits (with_line (changed c (slice_set c.lanes i left)) number (who.Lane i) command)
+good_lane limits c number i lane left command g is facts =
     let there = got c.lanes i lane closed_lane is in
     let opened_here : slice_index_or (map (λ lane. lane.opened) c.lanes) i false ≡ lane.opened = get_or-map (λ (lane : LaneNames). lane.opened) c.lanes i closed_lane ∙ ap (λ (lane : LaneNames). lane.opened) there.1 in
-    good_push limits c (slice_set c.lanes i left) done.fields number (who.Lane i) command g
+    good_push limits c (slice_set c.lanes i left) number (who.Lane i) command g
     (length-set c.lanes i left)
     (ap (λ o. slice_set (map (λ lane. lane.opened) c.lanes) i (opened_after command o)) opened_here
     ∙ ap (slice_set (map (λ lane. lane.opened) c.lanes) i) (sym facts.opened)
     ∙ sym (map-set (λ (lane : LaneNames). lane.opened) c.lanes i left))
     (set_grows c.lanes i left (let P : LaneNames → Type 0 = λ l. count_of l ≤ count_of left in subst P (sym there.1) facts.grows))
-    facts.named
     (λ vars classes names within few named.
     let inside : nat_lt i (length (map (λ lane. lane.opened) c.lanes)) ≡ true = lt-ltb i (length (map (λ lane. lane.opened) c.lanes)) (rw length-map there.0) in
     let most : count_of left ≤ get_or vars i 0 = (let P : LaneNames → Type 0 = λ l. count_of l ≤ get_or vars i 0 in subst P (get_or-set_same c.lanes i left closed_lane there.0) (within i)) in
     (λ t. inside t && fits_lane (slice_index vars i) classes names (opened_here t) command) ∙ facts.fit (get_or vars i 0) classes names most few named)
 
 -- a step of a lane keeps it
-good_with_lane : (limits : Limits) (c next : Context) (number i : ℕ) (lane : LaneNames) (what : Does) (r : Result Stepped Cause) → Good limits c → slice_get c.lanes i ≡ Some lane → lane_step c.classes.classes lane c.fields what ≡ r → with_lane number c i r ≡ Ok next → Good limits next
+good_with_lane : (limits : Limits) (c next : Context) (number i : ℕ) (lane : LaneNames) (what : Does) (r : Result (LaneNames × Cmd) Cause) → Good limits c → slice_get c.lanes i ≡ Some lane → lane_step c.classes.classes c.fields lane what ≡ r → with_lane number c i r ≡ Ok next → Good limits next
 good_with_lane limits c next number i lane what (Err why) g is step e = err_ok e
-good_with_lane limits c next number i lane what (Ok done) g is step e = subst (Good limits) (ok_same e) (good_lane limits c number i lane done g is (step_facts c.classes.classes lane c.fields what done step))
+good_with_lane limits c next number i lane what (Ok (left, command)) g is step e = subst (Good limits) (ok_same e) (good_lane limits c number i lane left command g is (step_facts c.classes.classes c.fields lane what (left, command) step))
 
 -- so does a line of a lane that is there
 good_lane_at : (limits : Limits) (c next : Context) (number i : ℕ) (what : Does) (o : Option LaneNames) → Good limits c → slice_get c.lanes i ≡ o → lane_at number c i o what ≡ Ok next → Good limits next
 good_lane_at limits c next number i what None g is e = err_ok e
-good_lane_at limits c next number i what (Some lane) g is e = good_with_lane limits c next number i lane what (lane_step c.classes.classes lane c.fields what) g is refl e
+good_lane_at limits c next number i what (Some lane) g is e = good_with_lane limits c next number i lane what (lane_step c.classes.classes c.fields lane what) g is refl e
 
 -- and one of a number that may name a lane
 good_lane_of : (limits : Limits) (c next : Context) (number : ℕ) (what : Does) (o : Option ℕ) → Good limits c → lane_of number c o what ≡ Ok next → Good limits next
@@ -524,13 +496,28 @@ good_classes limits c next (Ok more) g grows e =
       named = t.named g.named;
     })
 
--- so does one that tells a field
+-- so does one that tells a field, whose name is known then
+good_named : (limits : Limits) (c next : Context) (name : List ℕ) (r : Result Schema SchemaErr) → Good limits c → ((more : Schema) → r ≡ Ok more → TableGrows c.classes more) → with_named c name r ≡ Ok next → Good limits next
+good_named limits c next name (Err refusal) g grows e = err_ok e
+good_named limits c next name (Ok more) g grows e =
+    let t = grows more refl in
+    subst (Good limits) (ok_same e) (record {
+      lanes = g.lanes;
+      now = g.now;
+      framed = λ vars count names within few named. g.framed vars count names within (omega (arith, t.classes, few)) (omega (arith, names_grow c.fields name, named));
+      slots = t.slots ∙ g.slots;
+      some = omega (arith, t.classes, g.some);
+      at_once = t.at_once g.at_once;
+      named = t.named g.named;
+    })
+
+-- that is each line that tells a field
 good_field : (limits : Limits) (c next : Context) (number : ℕ) (name : List ℕ) (count : ℕ) (class : Option ClassId) (what : Option FieldKind) → Good limits c → field_known number c name count class what ≡ Ok next → Good limits next
 good_field limits c next number name count None what g e = err_ok e
 good_field limits c next number name count (Some class) None g e = err_ok e
 good_field limits c next number name count (Some class) (Some what) g e =
     let field : Declaration = record { name = name; line = number; kind = what; count = count } in
-    good_classes limits c next (field_added c.classes class field) g (λ more is. fielded_grows c.classes more class field (field_refusal c.classes class field.name field.count) is) e
+    good_named limits c next name (field_added c.classes class field) g (λ more is. fielded_grows c.classes more class field (field_refusal c.classes class field.name field.count) is) e
 
 good_counted : (limits : Limits) (c next : Context) (number : ℕ) (class name : List ℕ) (what : FieldOf) (o : Option ℕ) → Good limits c → field_counted number c class name what o ≡ Ok next → Good limits next
 good_counted limits c next number class name what None g e = err_ok e
@@ -543,7 +530,7 @@ good_act : (limits : Limits) (c next : Context) (number : ℕ) (what : Said) →
 good_act limits c next number said.Nothing g says e = subst (Good limits) (ok_same e) g
 good_act limits c next number (said.Class name parent) g says e = good_classes limits c next (added c.classes number name parent) g (λ more is. added_grows c.classes more number name (admitted c.classes.classes name parent) says is) e
 good_act limits c next number (said.Field class name what count) g says e = good_counted limits c next number class name what (elements_in count) g e
-good_act limits c next number said.Full g says e = subst (Good limits) (ok_same e) (good_push limits c c.lanes c.fields number who.Gc cmd.GcFull g refl refl (λ l. omega arith) (omega arith) (λ vars classes names within few named. refl))
+good_act limits c next number said.Full g says e = subst (Good limits) (ok_same e) (good_push limits c c.lanes number who.Gc cmd.GcFull g refl refl (λ l. omega arith) (λ vars classes names within few named. refl))
 good_act limits c next number (said.Lane lane what) g says e = good_lane_of limits c next number what (lane_index (length c.lanes) lane) g e
 
 -- so does a line that says something

@@ -8,7 +8,8 @@ use Rattle.class_schema.specs.declared.field.FieldKind.{FieldKind}
 use Rattle.class_schema.specs.declared.field.FieldKind.TheVariants as kind
 use Rattle.class_schema.specs.declared.refusal.SchemaErr.{SchemaErr}
 use Rattle.level_script.specs.Commands.{said_by_line}
-use Rattle.level_script.specs.Lanes.{closed_lane, count_of, Stepped, lane_step, lane_index}
+use Rattle.level_script.specs.Lanes.{closed_lane, count_of, lane_step, lane_index}
+use Rattle.level_script.specs.Names.{with_name}
 use Rattle.level_script.specs.declared.cause.Cause.{Cause}
 use Rattle.level_script.specs.declared.cause.Cause.TheVariants as cause
 use Rattle.level_script.specs.declared.cause.Stop.{Stop}
@@ -51,6 +52,11 @@ abbrev pub with_classes : Context → Result Schema SchemaErr → Result Context
 with_classes c (Ok classes) = Ok (record { classes = classes; in_header = c.in_header; lanes = c.lanes; fields = c.fields; lines = c.lines })
 with_classes c (Err refusal) = Err (cause.Schema refusal)
 
+-- the same of a line that tells a field, whose name is known then
+abbrev pub with_named : Context → List ℕ → Result Schema SchemaErr → Result Context Cause
+with_named c name (Ok classes) = Ok (record { classes = classes; in_header = c.in_header; lanes = c.lanes; fields = with_name c.fields name; lines = c.lines })
+with_named c name (Err refusal) = Err (cause.Schema refusal)
+
 -- a line of the header that tells a class
 abbrev pub class_turn : ℕ → Context → List ℕ → List ℕ → Result Context Cause
 class_turn number c name parent = with_classes c (added c.classes number name parent)
@@ -71,7 +77,7 @@ kind_found classes of.Int = Some kind.Int
 abbrev pub field_known : ℕ → Context → List ℕ → ℕ → Option ClassId → Option FieldKind → Result Context Cause
 field_known number c name count None what = Err cause.UnknownName
 field_known number c name count (Some class) None = Err cause.UnknownName
-field_known number c name count (Some class) (Some what) = with_classes c (field_added c.classes class (record { name = name; line = number; kind = what; count = count }))
+field_known number c name count (Some class) (Some what) = with_named c name (field_added c.classes class (record { name = name; line = number; kind = what; count = count }))
 
 abbrev pub field_counted : ℕ → Context → List ℕ → List ℕ → FieldOf → Option ℕ → Result Context Cause
 field_counted number c class name what None = Err cause.Number
@@ -82,14 +88,14 @@ abbrev pub field_turn : ℕ → Context → List ℕ → List ℕ → FieldOf �
 field_turn number c class name what count = field_counted number c class name what (elements_in count)
 
 -- what a lane's line leaves, and the line
-abbrev pub with_lane : ℕ → Context → ℕ → Result Stepped Cause → Result Context Cause
-with_lane number c index (Ok done) = Ok (with_line (record { classes = c.classes; in_header = c.in_header; lanes = slice_set c.lanes index done.lane; fields = done.fields; lines = c.lines }) number (who.Lane index) done.command)
+abbrev pub with_lane : ℕ → Context → ℕ → Result (LaneNames × Cmd) Cause → Result Context Cause
+with_lane number c index (Ok (lane, command)) = Ok (with_line (record { classes = c.classes; in_header = c.in_header; lanes = slice_set c.lanes index lane; fields = c.fields; lines = c.lines }) number (who.Lane index) command)
 with_lane number c index (Err why) = Err why
 
 -- the same of the lane at a place
 abbrev pub lane_at : ℕ → Context → ℕ → Option LaneNames → Does → Result Context Cause
 lane_at number c index None does = Err cause.Number
-lane_at number c index (Some lane) does = with_lane number c index (lane_step c.classes.classes lane c.fields does)
+lane_at number c index (Some lane) does = with_lane number c index (lane_step c.classes.classes c.fields lane does)
 
 -- the same of a lane that may be there
 abbrev pub lane_of : ℕ → Context → Option ℕ → Does → Result Context Cause

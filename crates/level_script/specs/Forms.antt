@@ -1,6 +1,6 @@
 -- The forms of words.
-use Rattle.std.specs.Prelude.{ℕ, ◌+◌, ◌==◌, ◌-◌, ◌^◌, Bool, false, ◌&&◌, ◌||◌, nat_le, nat_lt, List, [], ◌∷◌, map, length, take, drop, position, slice_index, codes, Option, Some, None, if◌then◌else◌}
-use Rattle.std.specs.List.{list_all}
+use Rattle.std.specs.Prelude.{ℕ, ◌+◌, ◌==◌, ◌-◌, ◌^◌, Bool, false, not, ◌&&◌, ◌||◌, nat_le, nat_lt, List, [], ◌∷◌, map, length, take, drop, slice_index, codes, Option, Some, None, if◌then◌else◌}
+use Rattle.std.specs.List.{list_all, position_or_len}
 use Rattle.std.specs.Str.{bytes_eq}
 use Rattle.std.specs.Char.{is_ascii_digit, is_ascii_alphabetic}
 use Rattle.std.specs.Int.Digits.{number_from_digits}
@@ -46,9 +46,16 @@ is_comment (b ∷ bs) = b == 35
 
 -- ---- spots
 
--- the place of the first byte of this value
-abbrev pub place_of : ℕ → List ℕ → Option ℕ
-place_of byte word = position (λ b. b == byte) word
+-- how many bytes in front continue an identifier
+abbrev pub front_length : List ℕ → ℕ
+front_length word = position_or_len (λ b. not (continues_identifier b)) word
+
+-- these bytes, and what stands behind them
+abbrev pub front : List ℕ → List ℕ
+front word = take (front_length word) word
+
+abbrev pub behind : List ℕ → List ℕ
+behind word = drop (front_length word) word
 
 -- the number in front of a last `]`
 abbrev pub bracketed : List ℕ → Option (Option ℕ)
@@ -57,23 +64,23 @@ bracketed word =
     then Some (number_of (take (length word - 1) word))
     else None
 
+-- the element that is told behind a field: 0 where nothing stands there, or the index in brackets
+abbrev pub element_of : List ℕ → Option (Option ℕ)
+element_of [] = Some (Some 0)
+element_of (b ∷ bs) = if b == 91 then bracketed bs else None
+
 -- an element of a field of a variable, if all of them are there
-abbrev pub placed : Option (List ℕ) → Option (List ℕ) → Option (Option ℕ) → Option Place
-placed (Some var) (Some field) (Some element) = Some (record { var = var; field = field; element = element })
-placed (Some var) (Some field) None = None
-placed (Some var) None element = None
-placed None field element = None
+abbrev pub placed : List ℕ → Option (List ℕ) → Option (Option ℕ) → Option Place
+placed var None element = None
+placed var (Some field) None = None
+placed var (Some field) (Some element) = Some (record { var = var; field = field; element = element })
 
--- the field and the element behind the dot: the element is 0 where there is no bracket
-abbrev pub field_at : Option (List ℕ) → List ℕ → Option ℕ → Option Place
-field_at var word None = placed var (identifier_of word) (Some (Some 0))
-field_at var word (Some at) = placed var (identifier_of (take at word)) (bracketed (drop (at + 1) word))
-
--- what stands before and behind the dot
-abbrev pub spot_at : List ℕ → Option ℕ → Option Place
-spot_at word None = None
-spot_at word (Some at) = field_at (variable_of (take at word)) (drop (at + 1) word) (place_of 91 (drop (at + 1) word))
+-- behind the variable stands a dot, then a field and its element
+abbrev pub spot_behind : Option (List ℕ) → List ℕ → Option Place
+spot_behind None rest = None
+spot_behind (Some var) [] = None
+spot_behind (Some var) (b ∷ bs) = if b == 46 then placed var (identifier_of (front bs)) (element_of (behind bs)) else None
 
 -- a spot: `V.F`, or `V.F[I]`
 abbrev pub spot_of : List ℕ → Option Place
-spot_of word = spot_at word (place_of 46 word)
+spot_of word = spot_behind (variable_of (front word)) (behind word)

@@ -2,7 +2,7 @@
 use Rattle.std.specs.Prelude.{◌≡◌, ℕ, nat_lt, Bool, true, false, List, [], length, Option, Some, None, option_map, Result, Ok, Err, MatchOption, slice_get, slice_set, if◌then◌else◌}
 use Rattle.world_model.specs.declared.kind.ClassId.{ClassId}
 use Rattle.class_schema.specs.Class.{Class}
-use Rattle.class_schema.specs.Table.{find_class, has_field}
+use Rattle.class_schema.specs.Table.{find_class}
 use Rattle.level_script.specs.Names.{number_of_name, number_in, with_name, has_number, with_number}
 use Rattle.level_script.specs.declared.cause.Cause.{Cause}
 use Rattle.level_script.specs.declared.cause.Cause.TheVariants as cause
@@ -68,30 +68,14 @@ abbrev pub element_in : Option ℕ → Option ℕ
 element_in (Some number) = if nat_lt number 4294967296 then Some number else None
 element_in None = None
 
--- the element of a variable that has this number, in a field of this name
-abbrev pub spot_with : List (List ℕ) → List ℕ → ℕ → Bool → Option ℕ → Option Spot
-spot_with fields name element true (Some var) = Some (record { var = var; field = number_in fields name; element = element })
-spot_with fields name element true None = None
-spot_with fields name element false var = None
+-- an element of a variable that is bound, in a field whose name is known
+abbrev pub spot_with : ℕ → Option ℕ → Option ℕ → Option Spot
+spot_with element (Some var) (Some field) = Some (record { var = var; field = field; element = element })
+spot_with element (Some var) None = None
+spot_with element None field = None
 
--- an element of a variable that is bound, of a field that some class has
-abbrev pub spot_found : List Class → LaneNames → List (List ℕ) → Place → ℕ → Option Spot
-spot_found classes lane fields place element = spot_with fields place.field element (has_field classes place.field) (bound_var lane place.var)
-
--- what a line leaves of its lane and of the names of fields, and the command that it is
-pub record Stepped : Type 0 where
-  pub lane : LaneNames
-  pub fields : List (List ℕ)
-  pub command : Cmd
-
--- the lane and the command of a line that names no field
-abbrev pub naming_none : List (List ℕ) → Result (LaneNames × Cmd) Cause → Result Stepped Cause
-naming_none fields (Ok (lane, command)) = Ok (record { lane = lane; fields = fields; command = command })
-naming_none fields (Err why) = Err why
-
--- the same of a line that names this field
-abbrev pub naming : List (List ℕ) → List ℕ → LaneNames → Cmd → Stepped
-naming fields name lane command = record { lane = lane; fields = with_name fields name; command = command }
+abbrev pub spot_found : LaneNames → List (List ℕ) → Place → ℕ → Option Spot
+spot_found lane fields place element = spot_with element (bound_var lane place.var) (number_of_name fields place.field)
 
 -- the number of the variable whose object is stored, or none
 abbrev pub bound_target : LaneNames → Option (List ℕ) → Option (Option ℕ)
@@ -99,56 +83,56 @@ bound_target lane None = Some None
 bound_target lane (Some name) = option_map Some (bound_var lane name)
 
 -- a reference is stored in an element
-abbrev pub set_at : LaneNames → List (List ℕ) → List ℕ → Option Spot → Option (Option ℕ) → Result Stepped Cause
-set_at lane fields name None to = Err cause.UnknownName
-set_at lane fields name (Some spot) None = Err cause.UnknownName
-set_at lane fields name (Some spot) (Some to) = Ok (naming fields name lane (cmd.Set spot to))
+abbrev pub set_at : LaneNames → Option Spot → Option (Option ℕ) → Result (LaneNames × Cmd) Cause
+set_at lane None to = Err cause.UnknownName
+set_at lane (Some spot) None = Err cause.UnknownName
+set_at lane (Some spot) (Some to) = Ok (lane, cmd.Set spot to)
 
-abbrev pub set_in : List Class → LaneNames → List (List ℕ) → Place → Option (List ℕ) → Option ℕ → Result Stepped Cause
-set_in classes lane fields place to None = Err cause.Number
-set_in classes lane fields place to (Some element) = if lane.opened then set_at lane fields place.field (spot_found classes lane fields place element) (bound_target lane to) else Err cause.Frame
+abbrev pub set_in : List (List ℕ) → LaneNames → Place → Option (List ℕ) → Option ℕ → Result (LaneNames × Cmd) Cause
+set_in fields lane place to None = Err cause.Number
+set_in fields lane place to (Some element) = if lane.opened then set_at lane (spot_found lane fields place element) (bound_target lane to) else Err cause.Frame
 
-abbrev pub set_step : List Class → LaneNames → List (List ℕ) → Place → Option (List ℕ) → Result Stepped Cause
-set_step classes lane fields place to = set_in classes lane fields place to (element_in place.element)
+abbrev pub set_step : List (List ℕ) → LaneNames → Place → Option (List ℕ) → Result (LaneNames × Cmd) Cause
+set_step fields lane place to = set_in fields lane place to (element_in place.element)
 
 -- a variable is bound to what an element refers to
-abbrev pub get_at : LaneNames → List (List ℕ) → List ℕ → List ℕ → Option Spot → Result Stepped Cause
-get_at lane fields name var None = Err cause.UnknownName
-get_at lane fields name var (Some spot) =
+abbrev pub get_at : LaneNames → List ℕ → Option Spot → Result (LaneNames × Cmd) Cause
+get_at lane var None = Err cause.UnknownName
+get_at lane var (Some spot) =
     let number = number_in lane.names var in
-    Ok (naming fields name (record { opened = lane.opened; names = with_name lane.names var; bound = with_number lane.bound number }) (cmd.Get number spot))
+    Ok (record { opened = lane.opened; names = with_name lane.names var; bound = with_number lane.bound number }, cmd.Get number spot)
 
-abbrev pub get_in : List Class → LaneNames → List (List ℕ) → List ℕ → Place → Option ℕ → Result Stepped Cause
-get_in classes lane fields var place None = Err cause.Number
-get_in classes lane fields var place (Some element) = if lane.opened then get_at lane fields place.field var (spot_found classes lane fields place element) else Err cause.Frame
+abbrev pub get_in : List (List ℕ) → LaneNames → List ℕ → Place → Option ℕ → Result (LaneNames × Cmd) Cause
+get_in fields lane var place None = Err cause.Number
+get_in fields lane var place (Some element) = if lane.opened then get_at lane var (spot_found lane fields place element) else Err cause.Frame
 
-abbrev pub get_step : List Class → LaneNames → List (List ℕ) → List ℕ → Place → Result Stepped Cause
-get_step classes lane fields var place = get_in classes lane fields var place (element_in place.element)
+abbrev pub get_step : List (List ℕ) → LaneNames → List ℕ → Place → Result (LaneNames × Cmd) Cause
+get_step fields lane var place = get_in fields lane var place (element_in place.element)
 
 -- a number is stored in an element
-abbrev pub put_at : LaneNames → List (List ℕ) → List ℕ → ℕ → Option Spot → Result Stepped Cause
-put_at lane fields name value None = Err cause.UnknownName
-put_at lane fields name value (Some spot) = Ok (naming fields name lane (cmd.Put spot value))
+abbrev pub put_at : LaneNames → ℕ → Option Spot → Result (LaneNames × Cmd) Cause
+put_at lane value None = Err cause.UnknownName
+put_at lane value (Some spot) = Ok (lane, cmd.Put spot value)
 
-abbrev pub put_in : List Class → LaneNames → List (List ℕ) → Place → Option ℕ → Option ℕ → Result Stepped Cause
-put_in classes lane fields place None value = Err cause.Number
-put_in classes lane fields place (Some element) None = Err cause.Number
-put_in classes lane fields place (Some element) (Some value) = if lane.opened then put_at lane fields place.field value (spot_found classes lane fields place element) else Err cause.Frame
+abbrev pub put_in : List (List ℕ) → LaneNames → Place → Option ℕ → Option ℕ → Result (LaneNames × Cmd) Cause
+put_in fields lane place None value = Err cause.Number
+put_in fields lane place (Some element) None = Err cause.Number
+put_in fields lane place (Some element) (Some value) = if lane.opened then put_at lane value (spot_found lane fields place element) else Err cause.Frame
 
-abbrev pub put_step : List Class → LaneNames → List (List ℕ) → Place → Option ℕ → Result Stepped Cause
-put_step classes lane fields place value = put_in classes lane fields place (element_in place.element) value
+abbrev pub put_step : List (List ℕ) → LaneNames → Place → Option ℕ → Result (LaneNames × Cmd) Cause
+put_step fields lane place value = put_in fields lane place (element_in place.element) value
 
 -- the number in an element is told
-abbrev pub take_at : LaneNames → List (List ℕ) → List ℕ → Option Spot → Result Stepped Cause
-take_at lane fields name None = Err cause.UnknownName
-take_at lane fields name (Some spot) = Ok (naming fields name lane (cmd.Take spot))
+abbrev pub take_at : LaneNames → Option Spot → Result (LaneNames × Cmd) Cause
+take_at lane None = Err cause.UnknownName
+take_at lane (Some spot) = Ok (lane, cmd.Take spot)
 
-abbrev pub take_in : List Class → LaneNames → List (List ℕ) → Place → Option ℕ → Result Stepped Cause
-take_in classes lane fields place None = Err cause.Number
-take_in classes lane fields place (Some element) = if lane.opened then take_at lane fields place.field (spot_found classes lane fields place element) else Err cause.Frame
+abbrev pub take_in : List (List ℕ) → LaneNames → Place → Option ℕ → Result (LaneNames × Cmd) Cause
+take_in fields lane place None = Err cause.Number
+take_in fields lane place (Some element) = if lane.opened then take_at lane (spot_found lane fields place element) else Err cause.Frame
 
-abbrev pub take_step : List Class → LaneNames → List (List ℕ) → Place → Result Stepped Cause
-take_step classes lane fields place = take_in classes lane fields place (element_in place.element)
+abbrev pub take_step : List (List ℕ) → LaneNames → Place → Result (LaneNames × Cmd) Cause
+take_step fields lane place = take_in fields lane place (element_in place.element)
 
 -- the object of a variable is told, if the variable is bound
 abbrev pub print_of : LaneNames → Option ℕ → Result (LaneNames × Cmd) Cause
@@ -160,17 +144,17 @@ print_step lane var = if lane.opened then print_of lane (bound_var lane var) els
 
 -- ---- all of it
 
--- what a line of a lane does to it and to the names of fields, and the command that it is
-abbrev pub lane_step : List Class → LaneNames → List (List ℕ) → Does → Result Stepped Cause
-lane_step classes lane fields does.Open = naming_none fields (open_step lane)
-lane_step classes lane fields does.Close = naming_none fields (close_step lane)
-lane_step classes lane fields (does.New var class) = naming_none fields (new_step classes lane var class)
-lane_step classes lane fields (does.Root var on) = naming_none fields (root_step lane var on)
-lane_step classes lane fields (does.Set place to) = set_step classes lane fields place to
-lane_step classes lane fields (does.Get var place) = get_step classes lane fields var place
-lane_step classes lane fields (does.Put place value) = put_step classes lane fields place value
-lane_step classes lane fields (does.Take place) = take_step classes lane fields place
-lane_step classes lane fields (does.Print var) = naming_none fields (print_step lane var)
+-- what a line of a lane does to it, and the command that it is
+abbrev pub lane_step : List Class → List (List ℕ) → LaneNames → Does → Result (LaneNames × Cmd) Cause
+lane_step classes fields lane does.Open = open_step lane
+lane_step classes fields lane does.Close = close_step lane
+lane_step classes fields lane (does.New var class) = new_step classes lane var class
+lane_step classes fields lane (does.Root var on) = root_step lane var on
+lane_step classes fields lane (does.Set place to) = set_step fields lane place to
+lane_step classes fields lane (does.Get var place) = get_step fields lane var place
+lane_step classes fields lane (does.Put place value) = put_step fields lane place value
+lane_step classes fields lane (does.Take place) = take_step fields lane place
+lane_step classes fields lane (does.Print var) = print_step lane var
 
 -- the lane that a number names
 abbrev pub lane_index : ℕ → Option ℕ → Option ℕ
@@ -183,25 +167,7 @@ Steps want new (Ok command) = want ≡ Ok (new, command)
 Steps want new (Err (stop.Faulty why)) = want ≡ Err why
 Steps want new (Err stop.Memory) = Unit {0}
 
--- the same of a line that may name a field
-abbrev pub StepsOn : Result Stepped Cause → LaneNames → List (List ℕ) → Result Cmd Stop → Type 0
-StepsOn want new fields (Ok command) = want ≡ Ok (record { lane = new; fields = fields; command = command })
-StepsOn want new fields (Err (stop.Faulty why)) = want ≡ Err why
-StepsOn want new fields (Err stop.Memory) = Unit {0}
-
--- the spot is the one that is wanted, and its field has been named; there may be no memory for it
-abbrev pub FindsSpot : Option Spot → List (List ℕ) → List ℕ → List (List ℕ) → Result Spot Stop → Type 0
-FindsSpot want old name new (Ok spot) = (want ≡ Some spot) × (new ≡ with_name old name)
-FindsSpot want old name new (Err (stop.Faulty why)) = (want ≡ None) × (why ≡ cause.UnknownName)
-FindsSpot want old name new (Err stop.Memory) = Unit {0}
-
--- the variable whose object is stored is the one that is wanted
-abbrev pub FindsTarget : Option (Option ℕ) → Result (Option ℕ) Stop → Type 0
-FindsTarget want (Ok to) = want ≡ Some to
-FindsTarget want (Err (stop.Faulty why)) = (want ≡ None) × (why ≡ cause.UnknownName)
-FindsTarget want (Err stop.Memory) = ⊥
-
 -- the lane at this place has done what it says, and no other has done anything
-abbrev pub StepsAt : List Class → List LaneNames → List (List ℕ) → ℕ → Does → List LaneNames → List (List ℕ) → Result Cmd Stop → Type 0
-StepsAt classes old fields index what new after result =
-    MatchOption (slice_get old index) ⊥ (λ lane. (left : LaneNames) × (new ≡ slice_set old index left) × StepsOn (lane_step classes lane fields what) left after result)
+abbrev pub StepsAt : List Class → List (List ℕ) → List LaneNames → ℕ → Does → List LaneNames → Result Cmd Stop → Type 0
+StepsAt classes fields old index what new result =
+    MatchOption (slice_get old index) ⊥ (λ lane. (left : LaneNames) × (new ≡ slice_set old index left) × Steps (lane_step classes fields lane what) left result)

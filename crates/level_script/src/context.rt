@@ -1,10 +1,9 @@
 //! What the lines so far have made known, and what one more line adds.
 ghost use Rattle.std.specs.Prelude.{◌≡◌, ◌≤◌, length, IsTrue, IfOk, IfSome, Ok};
 ghost use Rattle.class_schema.specs.Lawful.{has_target};
-ghost use Rattle.level_script.specs.Context.{AreLawful, start, with_line, class_turn, elements_in, kind_found, field_turn, lane_turn, act_turn, turn, Turns, script_from};
+ghost use Rattle.level_script.specs.Context.{AreLawful, start, with_line, class_turn, elements_in, kind_found, with_named, field_turn, lane_turn, act_turn, Turns, script_from};
 
 use crate::cause::{Cause, Stop};
-use crate::command::read_line;
 use crate::lanes::Lanes;
 use crate::limits::Limits;
 use crate::names::NameTable;
@@ -36,7 +35,7 @@ pub struct Context {
     /// Whether no line of another command than those of the header has come.
     in_header: bool,
     lanes: Lanes,
-    /// The names of the fields that lines mention.
+    /// The names of the fields, in the order in which lines of the header tell them first.
     fields: NameTable,
     /// The lines that do something.
     lines: Lines,
@@ -102,6 +101,16 @@ impl Context {
         }
     }
 
+    // The name of a field of the table is known.
+    fn name_field(&mut self, name: &Identifier<'_>) -> Result<(), Stop>
+        ensures { Turns (with_named self.old name.now (Ok self.old.classes)) self.new result }
+    {
+        match self.fields.add(name.as_str()) {
+            Ok(_) => Ok(()),
+            Err(_) => Err(Stop::Memory),
+        }
+    }
+
     fn add_field(
         &mut self,
         number: u32,
@@ -125,25 +134,25 @@ impl Context {
             .classes
             .add_field(number, class, name.as_str(), kind, count)
         {
-            Ok(()) => Ok(()),
+            Ok(()) => self.name_field(name),
             Err(AddErr::Schema(refusal)) => Err(Stop::Faulty(Cause::Schema(refusal))),
             Err(AddErr::Memory) => Err(Stop::Memory),
         }
     }
 
-    fn lane_line(&mut self, number: u32, lane: &Number, does: &Does<'_>) -> Result<(), Stop>
+    /// A line of a lane.
+    pub fn lane_line(&mut self, number: u32, lane: &Number, does: &Does<'_>) -> Result<(), Stop>
         ensures { Turns (lane_turn number self.old lane.now does.now) self.new result }
     {
         let Some(lane) = self.lanes.find(lane) else {
             return Err(Stop::Faulty(Cause::Number));
         };
-        let cmd = self
-            .lanes
-            .step(lane, &self.classes, &mut self.fields, does)?;
+        let cmd = self.lanes.step(lane, &self.classes, &self.fields, does)?;
         self.push(number, Who::Lane(lane), cmd)
     }
 
-    fn act(&mut self, number: u32, said: &Said<'_>) -> Result<(), Stop>
+    /// A line that says this.
+    pub fn act(&mut self, number: u32, said: &Said<'_>) -> Result<(), Stop>
         ensures { Turns (act_turn number self.old said.now) self.new result }
     {
         match said {
@@ -160,14 +169,11 @@ impl Context {
         }
     }
 
-    /// Takes the line with this number. After an error nothing is said of the context.
-    pub fn read(&mut self, number: u32, line: &[u8]) -> Result<(), Stop>
-        ensures { Turns (turn number self.old line.now) self.new result }
+    /// Whether a line of the header may follow.
+    pub fn is_in_header(&self) -> bool
+        ensures { result ≡ self.now.in_header }
     {
-        match &read_line(self.in_header, line) {
-            Ok(said) => self.act(number, said),
-            Err(cause) => Err(Stop::Faulty(*cause)),
-        }
+        self.in_header
     }
 
     /// The script that the lines are.

@@ -183,20 +183,25 @@ fn wrong_fields(rt: HostRuntime) {
     assert!(rt; other(alloc, &inputs, Cause::Schema(SchemaErr::HasChildren)).is_none());
 }
 
-// An element of the one variable, in the one field that lines name.
-fn element(index: u32) -> Spot {
-    spot(0, 0, index)
+// The fields of the start, in its order.
+const F: u32 = 0;
+
+const N: u32 = 1;
+
+// An element of the one variable.
+fn element(field: u32, index: u32) -> Spot {
+    spot(0, field, index)
 }
 
-fn take(index: u32) -> Cmd {
+fn take(field: u32, index: u32) -> Cmd {
     Cmd::Take {
-        spot: element(index),
+        spot: element(field, index),
     }
 }
 
-fn put(value: u64) -> Cmd {
+fn put(field: u32, value: u64) -> Cmd {
     Cmd::Put {
-        spot: element(0),
+        spot: element(field, 0),
         value,
     }
 }
@@ -204,28 +209,40 @@ fn put(value: u64) -> Cmd {
 #[test]
 fn commands_with_spots(rt: HostRuntime) {
     let alloc = rt.alloc();
-    let spot = element(0);
+    let spot = element(F, 0);
     for (line, want) in [
-        ("0 take a.n", take(0)),
-        ("0 take a.n[0]", take(0)),
-        ("0 take a.f[1]", take(1)),
-        ("00\t take \ta.f[0000000001]\t\r\n", take(1)),
-        ("0 take a.f[63]", take(63)),
-        ("0 take a.f[4294967295]", take(4294967295)),
-        ("0 take a.f[00000000000000000000]", take(0)),
-        ("0 put a.n 0", put(0)),
-        ("0 put a.n 00", put(0)),
-        ("0 put a.n 00000000000000000007", put(7)),
-        ("0 put a.n 18446744073709551615", put(18446744073709551615)),
-        ("0 put a.n 09223372036854775808", put(9223372036854775808)),
-        ("0 put a.f 5", put(5)),
+        ("0 take a.n", take(N, 0)),
+        ("0 take a.n[0]", take(N, 0)),
+        ("0 take a.f[1]", take(F, 1)),
+        ("00\t take \ta.f[0000000001]\t\r\n", take(F, 1)),
+        ("0 take a.f[63]", take(F, 63)),
+        ("0 take a.f[4294967295]", take(F, 4294967295)),
+        ("0 take a.f[00000000000000000000]", take(F, 0)),
+        ("0 put a.n 0", put(N, 0)),
+        ("0 put a.n 00", put(N, 0)),
+        ("0 put a.n 00000000000000000007", put(N, 7)),
+        (
+            "0 put a.n 18446744073709551615",
+            put(N, 18446744073709551615),
+        ),
+        (
+            "0 put a.n 09223372036854775808",
+            put(N, 9223372036854775808),
+        ),
+        ("0 put a.f 5", put(F, 5)),
         ("0 set a.f a", Cmd::Set { spot, to: Some(0) }),
         ("0 set a.f none", Cmd::Set { spot, to: None }),
-        ("0 set a.n[0] a", Cmd::Set { spot, to: Some(0) }),
+        (
+            "0 set a.n[0] a",
+            Cmd::Set {
+                spot: element(N, 0),
+                to: Some(0),
+            },
+        ),
         (
             "0 set a.f[1] none",
             Cmd::Set {
-                spot: element(1),
+                spot: element(F, 1),
                 to: None,
             },
         ),
@@ -235,7 +252,7 @@ fn commands_with_spots(rt: HostRuntime) {
             "0 get b a.f[1]",
             Cmd::Get {
                 var: 1,
-                spot: element(1),
+                spot: element(F, 1),
             },
         ),
         ("0 print a", Cmd::Print { var: 0 }),
@@ -247,7 +264,7 @@ fn commands_with_spots(rt: HostRuntime) {
 #[test]
 fn numbers_of_variables_and_fields(rt: HostRuntime) {
     let text =
-        "class A Object\nfield A f ref A\nfield A n int\nclass B Object\nfield B g weak\n0 open\n1 open\n0 new a A\n1 new x B\n0 get b a.f\n0 put b.n 1\n1 take x.g\n0 set a.f b\n0 get a b.f\n0 take a.g\n0 close\n0 open\n0 new b A\n0 print b\n0 get c b.f\n0 set c.f c";
+        "class A Object\nfield A n int\nfield A f ref A\nclass B Object\nfield B g weak\n0 open\n1 open\n0 new a A\n1 new x B\n0 get b a.f\n0 put b.n 1\n1 take x.g\n0 set a.f b\n0 get a b.f\n0 take a.g\n0 close\n0 open\n0 new b A\n0 print b\n0 get c b.f\n0 set c.f c";
     let class = ClassId(1);
     let lines = [
         lane_line(6, 0, Cmd::Open),
@@ -266,14 +283,14 @@ fn numbers_of_variables_and_fields(rt: HostRuntime) {
             0,
             Cmd::Get {
                 var: 1,
-                spot: spot(0, 0, 0),
+                spot: spot(0, 1, 0),
             },
         ),
         lane_line(
             11,
             0,
             Cmd::Put {
-                spot: spot(1, 1, 0),
+                spot: spot(1, 0, 0),
                 value: 1,
             },
         ),
@@ -288,7 +305,7 @@ fn numbers_of_variables_and_fields(rt: HostRuntime) {
             13,
             0,
             Cmd::Set {
-                spot: spot(0, 0, 0),
+                spot: spot(0, 1, 0),
                 to: Some(1),
             },
         ),
@@ -297,7 +314,7 @@ fn numbers_of_variables_and_fields(rt: HostRuntime) {
             0,
             Cmd::Get {
                 var: 0,
-                spot: spot(1, 0, 0),
+                spot: spot(1, 1, 0),
             },
         ),
         lane_line(
@@ -316,14 +333,14 @@ fn numbers_of_variables_and_fields(rt: HostRuntime) {
             0,
             Cmd::Get {
                 var: 2,
-                spot: spot(1, 0, 0),
+                spot: spot(1, 1, 0),
             },
         ),
         lane_line(
             21,
             0,
             Cmd::Set {
-                spot: spot(2, 0, 0),
+                spot: spot(2, 1, 0),
                 to: Some(2),
             },
         ),
@@ -331,7 +348,7 @@ fn numbers_of_variables_and_fields(rt: HostRuntime) {
     let alloc = rt.alloc();
     assert!(rt; is_script(alloc, text.as_bytes(), &lines, &[3, 1, 0, 0]));
     let script = read(alloc, text.as_bytes()).expect(&rt, "a script");
-    for (number, want) in [(0, Some("f")), (1, Some("n")), (2, Some("g")), (3, None)] {
+    for (number, want) in [(0, Some("n")), (1, Some("f")), (2, Some("g")), (3, None)] {
         assert!(rt; script.fields.get(number) == want, "the field {number}");
     }
 }

@@ -1,6 +1,6 @@
 //! The lanes of a script, as far as it has been read.
 ghost use Rattle.std.specs.Prelude.{◌≡◌, ◌<◌, ◌≤◌, length, map, replicate, IfOk, Some, slice_get};
-ghost use Rattle.level_script.specs.Lanes.{closed_lane, open_step, close_step, new_step, root_step, bound_var, element_in, spot_found, set_step, get_step, put_step, take_step, print_step, lane_step, lane_index, bound_target, Steps, StepsOn, FindsSpot, FindsTarget, StepsAt, count_of};
+ghost use Rattle.level_script.specs.Lanes.{closed_lane, open_step, close_step, new_step, root_step, bound_var, element_in, spot_found, set_step, get_step, put_step, take_step, print_step, lane_step, lane_index, bound_target, Steps, StepsAt, count_of};
 
 use crate::cause::{Cause, Stop};
 use crate::names::{NameTable, NumberSet};
@@ -112,52 +112,35 @@ impl LaneNames {
     }
 
     // The variable whose object is stored, or none.
-    fn target(&self, to: &Option<Identifier<'_>>) -> Result<Option<u32>, Stop>
-        ensures { FindsTarget (bound_target self.now to.now) result }
+    fn target(&self, to: &Option<Identifier<'_>>) -> Option<Option<u32>>
+        ensures { result ≡ bound_target self.now to.now }
     {
         let Some(name) = to else {
-            return Ok(None);
+            return Some(None);
         };
-        match self.bound_var(name.as_str()) {
-            Some(var) => Ok(Some(var)),
-            None => Err(Stop::Faulty(Cause::UnknownName)),
-        }
+        Some(Some(self.bound_var(name.as_str())?))
     }
 
-    // An element of a variable that is bound, of a field that some class has.
-    fn spot(
-        &self,
-        classes: &ClassTable,
-        fields: &mut NameTable,
-        place: &Place<'_>,
-        element: u32,
-    ) -> Result<Spot, Stop>
-        ensures { FindsSpot (spot_found classes.now.classes self.now fields.old place.now element) fields.old place.now.field fields.new result }
+    // An element of a variable that is bound, in a field whose name is known.
+    fn spot(&self, fields: &NameTable, place: &Place<'_>, element: u32) -> Option<Spot>
+        ensures { result ≡ spot_found self.now fields.now place.now element }
     {
-        let Some(var) = self.bound_var(place.var.as_str()) else {
-            return Err(Stop::Faulty(Cause::UnknownName));
-        };
-        if !classes.has_field(place.field.as_str()) {
-            return Err(Stop::Faulty(Cause::UnknownName));
-        }
-        match fields.add(place.field.as_str()) {
-            Ok(field) => Ok(Spot {
-                var,
-                field,
-                element,
-            }),
-            Err(_) => Err(Stop::Memory),
-        }
+        let var = self.bound_var(place.var.as_str())?;
+        let field = fields.find(place.field.as_str())?;
+        Some(Spot {
+            var,
+            field,
+            element,
+        })
     }
 
     fn set(
         &mut self,
-        classes: &ClassTable,
-        fields: &mut NameTable,
+        fields: &NameTable,
         place: &Place<'_>,
         to: &Option<Identifier<'_>>,
     ) -> Result<Cmd, Stop>
-        ensures { StepsOn (set_step classes.now.classes self.old fields.old place.now to.now) self.new fields.new result }
+        ensures { Steps (set_step fields.now self.old place.now to.now) self.new result }
     {
         let Some(element) = element_in(&place.element) else {
             return Err(Stop::Faulty(Cause::Number));
@@ -165,19 +148,22 @@ impl LaneNames {
         if !self.opened {
             return Err(Stop::Faulty(Cause::Frame));
         }
-        let to = self.target(to)?;
-        let spot = self.spot(classes, fields, place, element)?;
+        let Some(spot) = self.spot(fields, place, element) else {
+            return Err(Stop::Faulty(Cause::UnknownName));
+        };
+        let Some(to) = self.target(to) else {
+            return Err(Stop::Faulty(Cause::UnknownName));
+        };
         Ok(Cmd::Set { spot, to })
     }
 
     fn get(
         &mut self,
-        classes: &ClassTable,
-        fields: &mut NameTable,
+        fields: &NameTable,
         var: &Identifier<'_>,
         place: &Place<'_>,
     ) -> Result<Cmd, Stop>
-        ensures { StepsOn (get_step classes.now.classes self.old fields.old var.now place.now) self.new fields.new result }
+        ensures { Steps (get_step fields.now self.old var.now place.now) self.new result }
     {
         let Some(element) = element_in(&place.element) else {
             return Err(Stop::Faulty(Cause::Number));
@@ -185,7 +171,9 @@ impl LaneNames {
         if !self.opened {
             return Err(Stop::Faulty(Cause::Frame));
         }
-        let spot = self.spot(classes, fields, place, element)?;
+        let Some(spot) = self.spot(fields, place, element) else {
+            return Err(Stop::Faulty(Cause::UnknownName));
+        };
         let Ok(var) = self.names.add(var.as_str()) else {
             return Err(Stop::Memory);
         };
@@ -195,14 +183,8 @@ impl LaneNames {
         Ok(Cmd::Get { var, spot })
     }
 
-    fn put(
-        &mut self,
-        classes: &ClassTable,
-        fields: &mut NameTable,
-        place: &Place<'_>,
-        value: &Number,
-    ) -> Result<Cmd, Stop>
-        ensures { StepsOn (put_step classes.now.classes self.old fields.old place.now value.now) self.new fields.new result }
+    fn put(&mut self, fields: &NameTable, place: &Place<'_>, value: &Number) -> Result<Cmd, Stop>
+        ensures { Steps (put_step fields.now self.old place.now value.now) self.new result }
     {
         let Some(element) = element_in(&place.element) else {
             return Err(Stop::Faulty(Cause::Number));
@@ -213,17 +195,14 @@ impl LaneNames {
         if !self.opened {
             return Err(Stop::Faulty(Cause::Frame));
         }
-        let spot = self.spot(classes, fields, place, element)?;
-        Ok(Cmd::Put { spot, value })
+        match self.spot(fields, place, element) {
+            Some(spot) => Ok(Cmd::Put { spot, value }),
+            None => Err(Stop::Faulty(Cause::UnknownName)),
+        }
     }
 
-    fn take(
-        &mut self,
-        classes: &ClassTable,
-        fields: &mut NameTable,
-        place: &Place<'_>,
-    ) -> Result<Cmd, Stop>
-        ensures { StepsOn (take_step classes.now.classes self.old fields.old place.now) self.new fields.new result }
+    fn take(&mut self, fields: &NameTable, place: &Place<'_>) -> Result<Cmd, Stop>
+        ensures { Steps (take_step fields.now self.old place.now) self.new result }
     {
         let Some(element) = element_in(&place.element) else {
             return Err(Stop::Faulty(Cause::Number));
@@ -231,8 +210,10 @@ impl LaneNames {
         if !self.opened {
             return Err(Stop::Faulty(Cause::Frame));
         }
-        let spot = self.spot(classes, fields, place, element)?;
-        Ok(Cmd::Take { spot })
+        match self.spot(fields, place, element) {
+            Some(spot) => Ok(Cmd::Take { spot }),
+            None => Err(Stop::Faulty(Cause::UnknownName)),
+        }
     }
 
     fn print(&mut self, var: &Identifier<'_>) -> Result<Cmd, Stop>
@@ -251,20 +232,20 @@ impl LaneNames {
     fn step(
         &mut self,
         classes: &ClassTable,
-        fields: &mut NameTable,
+        fields: &NameTable,
         does: &Does<'_>,
     ) -> Result<Cmd, Stop>
-        ensures { StepsOn (lane_step classes.now.classes self.old fields.old does.now) self.new fields.new result }
+        ensures { Steps (lane_step classes.now.classes fields.now self.old does.now) self.new result }
     {
         match does {
             Does::Open => self.open(),
             Does::Close => self.close(),
             Does::New { var, class } => self.make(classes, var, class),
             Does::Root { var, on } => self.root(var, *on),
-            Does::Set { place, to } => self.set(classes, fields, place, to),
-            Does::Get { var, place } => self.get(classes, fields, var, place),
-            Does::Put { place, value } => self.put(classes, fields, place, value),
-            Does::Take { place } => self.take(classes, fields, place),
+            Does::Set { place, to } => self.set(fields, place, to),
+            Does::Get { var, place } => self.get(fields, var, place),
+            Does::Put { place, value } => self.put(fields, place, value),
+            Does::Take { place } => self.take(fields, place),
             Does::Print { var } => self.print(var),
         }
     }
@@ -321,11 +302,11 @@ impl Lanes {
         &mut self,
         lane: u32,
         classes: &ClassTable,
-        fields: &mut NameTable,
+        fields: &NameTable,
         does: &Does<'_>,
     ) -> Result<Cmd, Stop>
         requires { lane < length self.old }
-        ensures { StepsAt classes.now.classes self.old fields.old lane does.now self.new fields.new result }
+        ensures { StepsAt classes.now.classes fields.now self.old lane does.now self.new result }
     {
         let lane = &mut self.items[lane as usize];
         lane.step(classes, fields, does)

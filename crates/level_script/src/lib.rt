@@ -1,7 +1,8 @@
 //! The script language: what an input says, or the first fault that it has.
 //!
 //! It stands on class_schema, for the table of classes, on world_model, for the ids of classes, and
-//! on the kit's sets in the order of insertion. `specs/` has the grammar, apart from the code: `Lines` cuts an input,
+//! on the kit's sets in the order of insertion. A line is cut, read and done in one go (`turns`), and pays for no
+//! list of its words. `specs/` has the grammar, apart from the code: `Lines` cuts an input,
 //! `Forms` has the words, `Commands` the lines, `Lanes` and `Context` what one more line adds to
 //! what the lines before it have made known, `Reading` whole inputs, and `Frames` what a player may
 //! rely on. So far there are the commands `class NAME PARENT` and `field CLASS NAME KIND` of the
@@ -27,6 +28,7 @@ mod reader;
 mod said;
 mod script;
 mod spot;
+mod turns;
 mod word;
 
 pub use cause::{Cause, ParseErr, ScriptErr};

@@ -1,7 +1,6 @@
 //! Names and numbers of variables, and names of fields.
-ghost use Rattle.std.specs.Prelude.{◌≡◌, ◌==◌, ◌∷◌, [], ◌≤◌, ◌^◌, ◌-◌, length, IfOk, OnOk, OnErr, MatchOption, slice_get, Some, None};
-ghost use Rattle.std.specs.List.{list_any};
-ghost use Rattle.level_script.specs.Names.{number_in, with_name, number_of_name, has_number, with_number};
+ghost use Rattle.std.specs.Prelude.{◌≡◌, [], ◌<◌, ◌≤◌, length, IfOk, OnOk, MatchOption, slice_get, Some, None};
+ghost use Rattle.level_script.specs.Names.{number_in, with_name, number_of_name, has_number, with_number, AreSame};
 
 use indexmap::IndexSet;
 use std::alloc::{AllocError, Global};
@@ -84,19 +83,37 @@ impl NameTable {
     }
 }
 
+// Appends zeros until there is an element at this place.
+fn reach(rounds: &mut Vec<u32>, at: usize) -> Result<(), AllocError>
+    ensures there { OnOk result (at < length rounds.new.items) }
+    ensures same { AreSame rounds.old.items rounds.new.items }
+{
+    while rounds.len() <= at {
+        rounds.push(0)?;
+    }
+    Ok(())
+}
+
 /// Numbers, in the order in which they came. Contracts see it as their list.
 #[derive(Drop)]
 pub struct NumberSet {
     alloc: Global,
-    numbers: IndexSet<u32>,
+    numbers: Vec<u32>,
+    /// For each number the round in which it came last, or 0: by it a number is found at once.
+    rounds: Vec<u32>,
+    /// The round of those that are there, from 1.
+    round: u32,
 }
 
 impl Model for NumberSet {
-    ghost use Rattle.std.specs.Prelude.{ℕ, List};
+    ghost use Rattle.std.specs.Prelude.{ℕ, List, ◌≤◌};
+    ghost use Rattle.level_script.specs.Names.{AreUpTo, CameIn};
 
     ghost Value = { List ℕ };
 
-    ghost view = { λ s. s.numbers.keys };
+    ghost view = { λ s. s.numbers.items };
+
+    ghost invariant = { λ s. (1 ≤ s.round) × AreUpTo s.round s.rounds.items × CameIn s.rounds.items s.round s.numbers.items };
 }
 
 impl NumberSet {
@@ -106,21 +123,31 @@ impl NumberSet {
     {
         NumberSet {
             alloc,
-            numbers: IndexSet::new(alloc),
+            numbers: Vec::new(alloc),
+            rounds: Vec::new(alloc),
+            round: 1,
         }
     }
 
     pub fn has(&self, number: u32) -> bool
         ensures { result ≡ has_number self.now number }
     {
-        self.numbers.contains(&number)
+        match self.rounds.get(number as usize) {
+            Some(round) => *round == self.round,
+            None => false,
+        }
     }
 
     /// Adds a number where it is new.
     pub fn add(&mut self, number: u32) -> Result<(), AllocError>
         ensures { OnOk result (self.new ≡ with_number self.old number) }
     {
-        self.numbers.insert(number)?;
+        if self.has(number) {
+            return Ok(());
+        }
+        reach(&mut self.rounds, number as usize)?;
+        self.numbers.push(number)?;
+        self.rounds[number as usize] = self.round;
         Ok(())
     }
 
@@ -128,6 +155,12 @@ impl NumberSet {
     pub fn clear(&mut self)
         ensures { self.new ≡ [] }
     {
-        self.numbers = IndexSet::new(self.alloc);
+        self.numbers.clear();
+        if self.round < u32::MAX {
+            self.round += 1;
+        } else {
+            self.rounds = Vec::new(self.alloc);
+            self.round = 1;
+        }
     }
 }

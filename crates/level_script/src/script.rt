@@ -20,7 +20,8 @@ pub enum Who {
 #[derive(Clone, Copy, Debug, PartialEq, Eq)]
 pub struct Spot {
     pub var: u32,
-    /// The number of the field's name, from 0 in the order in which lines mention them first.
+    /// The number of the field's name, from 0 in the order in which lines of the header tell them
+    /// first.
     pub field: u32,
     /// The number of the element, from 0.
     pub element: u32,

@@ -1,7 +1,7 @@
 //! The forms of words.
-ghost use Rattle.std.specs.Prelude.{◌≡◌, ◌<◌, ◌≤◌, ◌^◌, length, Some, None, option_map, IsTrue};
+ghost use Rattle.std.specs.Prelude.{◌≡◌, ◌≤◌, length, not, position, Some, None, option_map, IsTrue};
 ghost use Rattle.std.specs.List.{list_all};
-ghost use Rattle.level_script.specs.Forms.{begins_identifier, continues_identifier, is_identifier, identifier_of, variable_of, is_digits, written, number_of, is_comment};
+ghost use Rattle.level_script.specs.Forms.{begins_identifier, continues_identifier, is_identifier, identifier_of, variable_of, is_digits, written, number_of, is_comment, front_length, front, behind};
 
 use std::marker::Model;
 
@@ -86,7 +86,7 @@ fn begins_identifier(byte: u8) -> bool
 fn continues_identifier(byte: u8) -> bool
     ensures { result ≡ continues_identifier byte }
 {
-    byte.is_ascii_alphabetic() || byte.is_ascii_digit() || byte == b'_'
+    byte.is_ascii_lowercase() || byte.is_ascii_digit() || begins_identifier(byte)
 }
 
 fn all_continue(bytes: &[u8]) -> bool
@@ -95,25 +95,14 @@ fn all_continue(bytes: &[u8]) -> bool
     bytes.iter().all(|b| continues_identifier(*b))
 }
 
-fn is_identifier(word: &[u8]) -> bool
-    ensures { result ≡ is_identifier word.now }
-{
-    let [first, others @ ..] = word else {
-        return false;
-    };
-    begins_identifier(*first) && all_continue(others) && others.len() < 64
-}
-
 /// The identifier that a word is.
 pub fn read_identifier<'a>(word: &'a [u8]) -> Option<Identifier<'a>>
     ensures { result ≡ identifier_of word.now }
 {
-    if !is_identifier(word) {
+    if !all_continue(word) {
         return None;
     }
-    // Each byte of an identifier is ASCII.
-    let text = unsafe { str::from_utf8_unchecked(word) };
-    Some(Identifier { text })
+    front_identifier(word)
 }
 
 /// The identifier of a variable that a word is.
@@ -124,6 +113,69 @@ pub fn read_variable<'a>(word: &'a [u8]) -> Option<Identifier<'a>>
         None
     } else {
         read_identifier(word)
+    }
+}
+
+// Where the first byte is that continues no identifier.
+fn front_end(word: &[u8]) -> Option<usize>
+    ensures { result ≡ position (λ b. not (continues_identifier b)) word.now }
+{
+    word.iter().position(|b| !continues_identifier(*b))
+}
+
+// How many bytes in front continue an identifier.
+fn front_length(word: &[u8]) -> usize
+    ensures count { result ≡ front_length word.now }
+    ensures bound { result ≤ length word.now }
+{
+    match front_end(word) {
+        Some(end) => end,
+        None => word.len(),
+    }
+}
+
+/// The bytes in front that continue an identifier, and what stands behind them.
+pub fn split_front<'a>(word: &'a [u8]) -> (&'a [u8], &'a [u8])
+    ensures front { result.0.now ≡ front word.now }
+    ensures form { IsTrue (list_all continues_identifier result.0.now) }
+    ensures behind { result.1.now ≡ behind word.now }
+{
+    word.split_at(front_length(word))
+}
+
+// Whether bytes that continue an identifier are one.
+fn is_front(front: &[u8]) -> bool
+    requires { IsTrue (list_all continues_identifier front.now) }
+    ensures { result ≡ is_identifier front.now }
+{
+    let [first, others @ ..] = front else {
+        return false;
+    };
+    begins_identifier(*first) && others.len() < 64
+}
+
+/// The identifier that bytes are, each of which continues one.
+pub fn front_identifier<'a>(front: &'a [u8]) -> Option<Identifier<'a>>
+    requires { IsTrue (list_all continues_identifier front.now) }
+    ensures { result ≡ identifier_of front.now }
+{
+    if !is_front(front) {
+        return None;
+    }
+    // Each byte of an identifier is ASCII.
+    let text = unsafe { str::from_utf8_unchecked(front) };
+    Some(Identifier { text })
+}
+
+/// The identifier of a variable that bytes are, each of which continues one.
+pub fn front_variable<'a>(front: &'a [u8]) -> Option<Identifier<'a>>
+    requires { IsTrue (list_all continues_identifier front.now) }
+    ensures { result ≡ variable_of front.now }
+{
+    if front == b"none".as_slice() {
+        None
+    } else {
+        front_identifier(front)
     }
 }
 

@@ -1,4 +1,4 @@
--- What a script tells before its lines: its classes, and the names of the fields that its lines mention.
+-- What a script tells before its lines: its classes, and the names of its fields, by number.
 use Rattle.std.specs.Prelude.{ℕ, List}
 use Rattle.class_schema.specs.Class.{Schema}
 

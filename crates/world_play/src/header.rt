@@ -4,7 +4,7 @@ ghost use Rattle.std.specs.Prelude.{◌≡◌};
 use level_script::{ClassTable, FieldNames};
 use std::marker::Model;
 
-/// The classes of a script, and the names of the fields that its lines mention.
+/// The classes of a script, and the names of its fields, by number.
 #[derive(Drop)]
 pub struct Header<'a> {
     pub classes: &'a ClassTable,

@@ -7,6 +7,6 @@ use Rattle.level_script.proofs.context.Context.lane_line.Goals as goal
 
 pub returns : goal.returns
 returns c =
-    let done = lane_ok c.args.number c.args.self.now c.args.lane.now c.args.does.now c.in-Some.lane c.step.new.self c.step.new.fields c.in_ok-cmd.cmd (sym c.in-Some.ensures) c.in_ok-cmd.ensures in
+    let done = lane_ok c.args.number c.args.self.now c.args.lane.now c.args.does.now c.in-Some.lane c.step.new.self c.in_ok-cmd.cmd (sym c.in-Some.ensures) c.in_ok-cmd.ensures in
     let P : Result Context Cause → Type 0 = λ want. Turns want c.push.new.self c.push.result in
     subst P (sym done) c.push.ensures

@@ -1,6 +1,0 @@
-use Rattle.std.proofs.Common.{sym, ◌∙◌}
-use Rattle.level_script.proofs.Forming.{identifier_utf8}
-use Rattle.level_script.proofs.word.read_identifier.Goals as goal
-
-pub from_utf8_unchecked-text-requires : goal.from_utf8_unchecked-text-requires
-from_utf8_unchecked-text-requires c = identifier_utf8 c.args.word.now (sym c.is_identifier.ensures ∙ c.if-not-is_identifier.false)
