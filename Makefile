@@ -1,4 +1,4 @@
-.PHONY: play try examples test
+.PHONY: play try examples bench test
 
 SCRIPT = examples/first.script
 WORDS =
@@ -28,6 +28,10 @@ try:
 # Plays the scripts of examples/ in slices of several sizes, and compares what they write.
 examples: $(PROGRAM)
 	.ci/examples
+
+# Measures the proved program on generated scripts.
+bench: $(PROGRAM)
+	@bench/run.py
 
 # Proves everything, tries the must-fail edits and runs the tests: the gate, as it runs before a change lands.
 test:
