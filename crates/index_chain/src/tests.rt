@@ -4,6 +4,7 @@ ghost use Rattle.index_chain.specs.Walks.{items, IsChain};
 
 use crate::calls::{append, at, push_front, take_front};
 use crate::chain::Chain;
+use crate::laws::{outside_stays, parts_stay};
 use crate::vector::VecLinks;
 use crate::words::Links;
 
@@ -124,4 +125,11 @@ fn words_name_the_next_items(rt: HostRuntime) {
     let mut links = VecLinks::new(rt.alloc(), 4).expect(&rt, "memory");
     links.set_next(3, Some(9));
     assert_eq!(rt; links.next(3), Some(9));
+}
+
+// The laws hold of all chains: they can be called anywhere.
+#[test]
+fn laws() {
+    outside_stays();
+    parts_stay();
 }
