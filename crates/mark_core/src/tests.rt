@@ -1,4 +1,8 @@
 //! Worked runs, what is not allowed, and runs by chance.
+use crate::laws::{
+    commits_are_right, dissolving_is_lawful, events_stay_lawful, frames_are_counted,
+    making_is_lawful, scan_closes, scanned_once, stays_lawful,
+};
 use crate::marking::Core;
 use crate::types::Event;
 use crate::types::Event::{
@@ -208,4 +212,17 @@ fn events_find_their_words(rt: HostRuntime) {
     assert!(rt; finds(&mut core, &steps));
     assert_eq!(rt; core.target(0), Some(1));
     assert!(rt; core.is_marked(0) && !core.is_marked(1));
+}
+
+// The laws hold of every machine: they can be called anywhere.
+#[test]
+fn laws() {
+    stays_lawful();
+    events_stay_lawful();
+    scanned_once();
+    commits_are_right();
+    scan_closes();
+    making_is_lawful();
+    dissolving_is_lawful();
+    frames_are_counted();
 }
