@@ -162,7 +162,7 @@ def main():
             times = [max(a - b, 0) for a, b in zip(best(programs, some), best(programs, few))]
             show(name, objects, len(few), times, f"live object and collection, of {count}", objects * count)
     for objects in (800, 8_000):
-        count = 100_000 // objects * 2
+        count = 80_000 // objects
         lines = churn(objects, count)
         show("churn", objects, len(lines), best(programs, lines), f"line, with {count} collections", len(lines))
 
