@@ -70,7 +70,7 @@ def graphs(objects, count):
 
 
 def churn(objects, count):
-    """In each of the rounds so many objects are made, one in eight is kept to the next, and all others are removed."""
+    """In each of the rounds so many objects are made, each eighth a root for a while, and all are removed."""
     lines = list(HEADER)
     for turn in range(count):
         for lane in range(LANES):
