@@ -1,11 +1,13 @@
 -- Tables by name, as lists.
-use Rattle.std.proofs.Common.{◌≡◌, ℕ, ◌+◌, ◌<◌, arith, length, List, [], ◌∷◌, ◌++◌, refl, sym, ap, ◌∙◌, Bool, true, false, not, ◌||◌, cond, map, Some, None, String, string_bytes}
+use Rattle.std.proofs.Common.{◌≡◌, ℕ, zero, suc, ◌+◌, ◌<◌, lt-ltb, arith, length, List, [], ◌∷◌, ◌++◌, refl, sym, ap, subst, ◌∙◌, Bool, true, false, not, ◌||◌, cond, map, slice_get, Some, None, String, string_bytes}
 use Rattle.std.specs.Prelude.{nat_lt, position}
-use Rattle.std.specs.List.{position_or_len, prefix_len, list_any}
+use Rattle.std.specs.List.{position_or_len, prefix_len, list_any, AllByRecursion, IsDistinct}
 use Rattle.std.specs.Str.{bytes_eq}
 use Rattle.std.specs.String.{string_eq}
 use Rattle.std.specs.declared.alloc.Global.{Global}
 use Rattle.std.proofs.lemmas.Bool.{ltb-true}
+use Rattle.std.proofs.lemmas.Slice.Eq.{bytes_eq-Decides}
+use Rattle.std.proofs.lemmas.Option.{slice_get_within}
 use Rattle.std.proofs.lemmas.List.{length-map, map-append}
 use Rattle.indexmap.specs.IndexSet.{insert_key}
 use Rattle.level_script.specs.Names.{number_of_name, number_in, with_name}
@@ -76,3 +78,38 @@ name_there names name i e =
     let found = place_some (nat_lt (position_or_len (bytes_eq name) names) (length names)) (position_or_len (bytes_eq name) names) i e in
     let passes = place_passes (bytes_eq name) names (ltb-true _ _ found.0) in
     (sym found.1, ap (λ b. cond b names (names ++ name ∷ [])) (sym passes))
+
+-- ---- a name at a place
+
+-- what holds of each holds of the one at a place
+all_at : {A : Type 0} (P : A → Type 0) (xs : List A) (n : ℕ) (x : A) → AllByRecursion P xs → slice_get xs n ≡ Some x → P x
+all_at P [] n x all e = absurd cc
+all_at P (y ∷ ys) zero x all e = let same : y ≡ x = cc in subst P same all.0
+all_at P (y ∷ ys) (suc n) x all e = all_at P ys n x all.1 e
+
+-- texts that differ, differ the other way round
+differ : (b : Bool) (xs ys : List ℕ) → bytes_eq ys xs ≡ b → bytes_eq xs ys ≡ false → b ≡ false
+differ false xs ys e other = refl
+differ true xs ys e other =
+    let same : xs ≡ ys = sym ((bytes_eq-Decides ys xs).0 e) in
+    let is : bytes_eq xs ys ≡ true = (bytes_eq-Decides xs ys).1 same in
+    absurd cc
+
+-- the place of a key among distinct ones is the first with its text
+first_place : (ks : List (String Global)) (n : ℕ) (k : String Global) → IsDistinct string_eq ks → slice_get ks n ≡ Some k → position_or_len (bytes_eq (string_bytes k)) (map string_bytes ks) ≡ n
+unfolding IsDistinct
+first_place [] n k distinct e = absurd cc
+first_place (x ∷ ks) zero k distinct e =
+    let same : k ≡ x = cc in
+    let passes : bytes_eq (string_bytes k) (string_bytes x) ≡ true = (bytes_eq-Decides (string_bytes k) (string_bytes x)).1 (ap string_bytes same) in
+    ap (λ b. cond (not b) (1 + position_or_len (bytes_eq (string_bytes k)) (map string_bytes ks)) 0) passes
+first_place (x ∷ ks) (suc n) k distinct e =
+    let other : bytes_eq (string_bytes k) (string_bytes x) ≡ false = differ (bytes_eq (string_bytes k) (string_bytes x)) (string_bytes x) (string_bytes k) refl (all_at (λ y. string_eq x y ≡ false) ks n k distinct.0 e) in
+    ap (λ b. cond (not b) (1 + position_or_len (bytes_eq (string_bytes k)) (map string_bytes ks)) 0) other ∙ ap (λ m. 1 + m) (first_place ks n k distinct.1 e) ∙ omega arith
+
+-- so it is its number
+pub name_at : (ks : List (String Global)) (n : ℕ) (k : String Global) → IsDistinct string_eq ks → slice_get ks n ≡ Some k → number_of_name (map string_bytes ks) (string_bytes k) ≡ Some n
+unfolding number_of_name
+name_at ks n k distinct e =
+    let below : n < length (map string_bytes ks) = rw (length-map ks string_bytes) (slice_get_within ks n k e) in
+    (λ t. cond (nat_lt (first_place ks n k distinct e t) (length (map string_bytes ks))) (Some (first_place ks n k distinct e t)) None) ∙ ap (λ b. cond b (Some n) None) (lt-ltb _ _ below)

@@ -1,6 +1,7 @@
 //! Cutting an input into lines, and a line into words.
-ghost use Rattle.std.specs.Prelude.{◌≡◌, ◌==◌, ◌+◌, ◌∷◌, [], ◌<◌, ◌≤◌, length, take, drop, not, MatchOption, position};
+ghost use Rattle.std.specs.Prelude.{◌≡◌, ◌==◌, ◌+◌, ◌∷◌, [], ◌<◌, ◌≤◌, length, take, drop, not, MatchOption, IfSome, position};
 ghost use Rattle.std.specs.List.{position_or_len};
+ghost use Rattle.std.specs.Str.{IsAscii};
 ghost use Rattle.level_script.specs.Lines.{input_lines, line_words, without_return, is_blank, BeginsWord, is_none};
 
 // The line without a carriage return at its end.
@@ -45,6 +46,7 @@ fn feed_at(bytes: &[u8]) -> Option<usize>
 pub fn first_line<'a>(bytes: &'a [u8]) -> Option<(&'a [u8], &'a [u8])>
     ensures lines { MatchOption result (input_lines bytes.now ≡ []) (λ r. input_lines bytes.now ≡ r.0.now ∷ input_lines r.1.now) }
     ensures rest { MatchOption result (bytes.now ≡ []) (λ r. length r.1.now < length bytes.now) }
+    ensures ascii { IfSome result (λ r. IsAscii bytes.now → IsAscii r.0.now × IsAscii r.1.now) }
 {
     if bytes.is_empty() {
         return None;

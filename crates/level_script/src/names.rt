@@ -1,5 +1,5 @@
 //! Names and numbers of variables, and names of fields.
-ghost use Rattle.std.specs.Prelude.{◌≡◌, [], ◌<◌, ◌≤◌, length, IfOk, OnOk, MatchOption, slice_get, Some, None};
+ghost use Rattle.std.specs.Prelude.{◌≡◌, ◌+◌, [], ◌<◌, ◌≤◌, length, IfOk, IfSome, OnOk, MatchOption, slice_get, Some, None};
 ghost use Rattle.level_script.specs.Names.{number_in, with_name, number_of_name, has_number, with_number, AreSame};
 
 use indexmap::IndexSet;
@@ -9,12 +9,44 @@ use std::marker::Model;
 /// The most names of a table.
 const MOST: usize = 4294967295;
 
+/// How many places for hints there are.
+const PLACES: usize = 4096;
+
+// The four bytes from this place on as a number.
+fn word_at(bytes: &[u8], at: usize) -> u32
+    requires { at + 4 ≤ length bytes.now }
+{
+    u32::from_le_bytes([bytes[at], bytes[at + 1], bytes[at + 2], bytes[at + 3]])
+}
+
+// A number for a name, of its first and its last four bytes, or of each of fewer.
+fn mix(name: &[u8]) -> u64 {
+    let count = name.len();
+    let key = if count >= 4 {
+        word_at(name, 0) as u64 | (word_at(name, count - 4) as u64) << 32
+    } else if count > 0 {
+        name[0] as u64 | (name[count / 2] as u64) << 8 | (name[count - 1] as u64) << 16
+    } else {
+        0
+    };
+    key.wrapping_mul(0x9e37_79b9_7f4a_7c15)
+}
+
+// The place of a name's hint.
+fn place_of(mixed: u64) -> usize {
+    (mixed >> 52) as usize
+}
+
 /// Names, by number from 0 in the order in which they came. Contracts see it as the list of their
 /// texts.
 #[derive(Drop)]
 pub struct NameTable {
     alloc: Global,
     names: IndexSet<String>,
+    /// At the place of a name perhaps its number, below the upper half of its mix. A name is compared
+    /// before a hint is taken, so that nothing rests on hints but time: most look-ups find a name
+    /// here and search no further.
+    hints: Vec<u64>,
 }
 
 impl Model for NameTable {
@@ -35,6 +67,7 @@ impl NameTable {
         NameTable {
             alloc,
             names: IndexSet::new(alloc),
+            hints: Vec::new(alloc),
         }
     }
 
@@ -45,10 +78,46 @@ impl NameTable {
         self.names.len() as u32
     }
 
+    // The number of a name, where the hint at its place is right.
+    #[inline(always)]
+    fn hinted(&self, name: &str) -> Option<u32>
+        ensures { IfSome result (λ number. number_of_name self.now name.now ≡ Some number) }
+    {
+        let mixed = mix(name.as_bytes());
+        let hint = *self.hints.get(place_of(mixed))?;
+        let number = (hint % (1 << 32)) as u32;
+        if hint >> 32 != mixed >> 32 || number as usize >= self.names.len() {
+            return None;
+        }
+        let known = self.names.get_index(number as usize)?;
+        if known.as_str() == name {
+            Some(number)
+        } else {
+            None
+        }
+    }
+
+    // Keeps the number of a name at its place.
+    fn hint(&mut self, name: &str, number: u32) -> Result<(), AllocError>
+        ensures { self.new ≡ self.old }
+    {
+        if self.hints.is_empty() {
+            self.hints.resize(PLACES, 0)?;
+        }
+        let mixed = mix(name.as_bytes());
+        if let Some(hint) = self.hints.get_mut(place_of(mixed)) {
+            *hint = mixed >> 32 << 32 | number as u64;
+        }
+        Ok(())
+    }
+
     /// The number of a name.
     pub fn find(&self, name: &str) -> Option<u32>
         ensures { result ≡ number_of_name self.now name.now }
     {
+        if let Some(number) = self.hinted(name) {
+            return Some(number);
+        }
         match self.names.get_index_of(name) {
             Some(number) => Some(number as u32),
             None => None,
@@ -65,21 +134,31 @@ impl NameTable {
         }
     }
 
-    /// The number of a name, which is added where it is new. After an error nothing is said of the
-    /// table.
-    pub fn add(&mut self, name: &str) -> Result<u32, AllocError>
+    // The same as `add`, by the hashes alone.
+    fn insert(&mut self, name: &str) -> Result<u32, AllocError>
         ensures number { IfOk result (λ number. number ≡ number_in self.old name.now) }
         ensures names { OnOk result (self.new ≡ with_name self.old name.now) }
     {
-        if let Some(number) = self.find(name) {
-            return Ok(number);
-        }
         let key = String::from_str(self.alloc, name)?;
         if self.names.len() >= MOST {
             return Err(AllocError);
         }
         let (number, _) = self.names.insert_full(key)?;
         Ok(number as u32)
+    }
+
+    /// The number of a name, which is added where it is new. After an error nothing is said of the
+    /// table.
+    pub fn add(&mut self, name: &str) -> Result<u32, AllocError>
+        ensures number { IfOk result (λ number. number ≡ number_in self.old name.now) }
+        ensures names { OnOk result (self.new ≡ with_name self.old name.now) }
+    {
+        if let Some(number) = self.hinted(name) {
+            return Ok(number);
+        }
+        let number = self.insert(name)?;
+        self.hint(name, number)?;
+        Ok(number)
     }
 }
 

@@ -1,5 +1,6 @@
 //! Reading a whole input.
-ghost use Rattle.std.specs.Prelude.{◌≡◌, ◌≤◌, IfOk, OnOk};
+ghost use Rattle.std.specs.Prelude.{◌≡◌, ◌≤◌, IfOk, IsTrue, OnOk};
+ghost use Rattle.std.specs.Str.{IsAscii};
 ghost use Rattle.level_script.specs.Frames.{IsPlayable};
 ghost use Rattle.level_script.specs.Lines.{input_lines};
 ghost use Rattle.level_script.specs.Context.{AreLawful};
@@ -26,28 +27,35 @@ fn bad(line: u32, cause: Cause) -> ParseErr
 
 // Takes one line.
 #[tactic(auto, unfolding(crate::specs::Reading::line_turn))]
-fn take_line(context: &mut Context, number: u32, line: &[u8]) -> Result<(), ParseErr>
+fn take_line(
+    context: &mut Context,
+    number: u32,
+    line: &[u8],
+    is_ascii: bool,
+) -> Result<(), ParseErr>
+    requires { IsTrue is_ascii → IsAscii line.now }
     ensures turn { TurnsLine (line_turn number context.old line.now) number context.new result }
     ensures within { OnOk result (number ≤ 200000) }
 {
     if number > LINES {
         return Err(bad(number, Cause::TooLong));
     }
-    match context.read(number, line) {
+    match context.read(number, line, is_ascii) {
         Ok(()) => Ok(()),
         Err(Stop::Faulty(cause)) => Err(bad(number, cause)),
         Err(Stop::Memory) => Err(ParseErr::Memory),
     }
 }
 
-// Takes all lines.
+// Takes all lines. Of ASCII alone, as most inputs are, no line is looked at again for its UTF-8.
 fn take_lines(context: &mut Context, bytes: &[u8]) -> Result<(), ParseErr>
     ensures { ReadsLines (read_from 1 context.old (input_lines bytes.now)) context.new result }
 {
+    let is_ascii = bytes.is_ascii();
     let mut rest = bytes;
     let mut number = 1;
     while let Some((line, after)) = first_line(rest) {
-        if let Err(error) = take_line(context, number, line) {
+        if let Err(error) = take_line(context, number, line, is_ascii) {
             return Err(error);
         }
         number += 1;

@@ -174,6 +174,22 @@ fn roots_on_and_off(rt: HostRuntime) {
     assert!(rt; is_script(rt.alloc(), text.as_bytes(), &lines, &[2, 0, 0, 0]));
 }
 
+// The first four bytes of both names are the same, and so are the last four.
+#[test]
+fn names_that_look_alike(rt: HostRuntime) {
+    let text =
+        "0 open\n0 new name1tail Object\n0 new name2tail Object\n0 root name1tail on\n0 root name2tail off\n0 new name2tail Object";
+    let lines = [
+        lane_line(1, 0, Cmd::Open),
+        object_line(2, 0, 0),
+        object_line(3, 0, 1),
+        lane_line(4, 0, Cmd::Root { var: 0, on: true }),
+        lane_line(5, 0, Cmd::Root { var: 1, on: false }),
+        object_line(6, 0, 1),
+    ];
+    assert!(rt; is_script(rt.alloc(), text.as_bytes(), &lines, &[2, 0, 0, 0]));
+}
+
 #[test]
 fn empty_scripts(rt: HostRuntime) {
     let alloc = rt.alloc();

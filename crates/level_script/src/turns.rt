@@ -1,5 +1,6 @@
 //! Lines, which are read and done at once, one level of the grammar a function.
-ghost use Rattle.std.specs.Prelude.{◌≡◌};
+ghost use Rattle.std.specs.Prelude.{◌≡◌, IsTrue};
+ghost use Rattle.std.specs.Str.{IsAscii};
 ghost use Rattle.level_script.specs.Lines.{line_words};
 ghost use Rattle.level_script.specs.Commands.{pair_of, only_of, alone, new_command, root_command, set_command, get_command, put_command, take_command, print_command, lane_command, of_lane, lane_line, class_line, field_line, collector_line, said_by_words};
 ghost use Rattle.level_script.specs.declared.said.Does.TheVariants as does;
@@ -224,10 +225,15 @@ impl Context {
         }
     }
 
-    /// Takes the line with this number. After an error nothing is said of the context.
-    pub fn read(&mut self, number: u32, line: &[u8]) -> Result<(), Stop>
+    /// Takes the line with this number, which may be known to be ASCII. After an error nothing is
+    /// said of the context.
+    pub fn read(&mut self, number: u32, line: &[u8], is_ascii: bool) -> Result<(), Stop>
+        requires { IsTrue is_ascii → IsAscii line.now }
         ensures { Turns (turn number self.old line.now) self.new result }
     {
+        if is_ascii {
+            return self.words(number, line);
+        }
         match str::from_utf8(line) {
             Ok(_) => self.words(number, line),
             Err(_) => Err(Stop::Faulty(Cause::Utf8)),

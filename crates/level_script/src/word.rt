@@ -83,10 +83,21 @@ fn begins_identifier(byte: u8) -> bool
     byte.is_ascii_alphabetic() || byte == b'_'
 }
 
+// Each byte that continues an identifier stands at its own place, and a dot at every other one.
+static CONTINUES: [u8; 256] = *b"\
+    ................................\
+    ................0123456789......\
+    .ABCDEFGHIJKLMNOPQRSTUVWXYZ...._\
+    .abcdefghijklmnopqrstuvwxyz.....\
+    ................................\
+    ................................\
+    ................................\
+    ................................";
+
 fn continues_identifier(byte: u8) -> bool
     ensures { result ≡ continues_identifier byte }
 {
-    byte.is_ascii_lowercase() || byte.is_ascii_digit() || begins_identifier(byte)
+    CONTINUES[byte as usize] != b'.'
 }
 
 fn all_continue(bytes: &[u8]) -> bool

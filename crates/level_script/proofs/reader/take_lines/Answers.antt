@@ -15,6 +15,7 @@ pub loop-line-preserved : goal.loop-line-preserved
 loop-line-preserved c = record {
   same = sym (read_more c.loop-line.number c.loop-line.context c.take_line.new.context c.in-Some.line.now (input_lines c.in-Some.after.now) c.in_default-take_line.ensures.turn) ∙ ap (read_from c.loop-line.number c.loop-line.context) (sym c.in-Some.ensures.lines) ∙ c.loop-line.invariant.same;
   few = let within : c.loop-line.number ≤ 200000 = c.in_default-take_line.ensures.within in omega (arith, within);
+  ascii = λ h. (c.in-Some.ensures.ascii (c.loop-line.invariant.ascii h)).1;
 }
 
 pub returns : goal.returns
