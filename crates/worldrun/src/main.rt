@@ -2,7 +2,8 @@
 //! takes the text of a fault, and the exit status says how the run ended.
 //!
 //! It stands on `world_play`, whose one call does the whole run. This layer makes the real source
-//! and sink for it, which count their faults and tell no bytes.
+//! and sink for it, which count their faults and tell no bytes. Replies are put one by one, and a
+//! buffer of the kit gathers them, so that a reply costs no call of the system.
 #![tactic(auto)]
 
 ghost use Rattle.std.specs.Prelude.{◌≡◌, ◌⊎◌, IfErr};
@@ -14,10 +15,10 @@ mod std_source;
 mod tests;
 
 use std::alloc::Global;
-use std::env;
-use std::io::{ErrorKind, Write};
+use std::io::{BufWriter, ErrorKind, Write};
 use std::process::ExitCode;
 use std::rt::Env;
+use std::{env, io};
 use std_sink::StdSink;
 use std_source::StdSource;
 use world_play::{NoPace, Status, exit_code, fault_text, worldrun};
@@ -46,14 +47,16 @@ fn tell<W: Write>(alloc: Global, status: &Status, err: &mut W) {
 }
 
 fn main(rt: HostRuntime) -> ExitCode {
-    let status = match words(&rt) {
-        Ok(words) => {
+    let status = match (words(&rt), BufWriter::new(rt.alloc(), io::writer(&rt))) {
+        (Ok(words), Ok(out)) => {
             let mut source = StdSource::new(rt.stdin());
-            let mut sink = StdSink::new(rt.stdout());
+            let mut sink = StdSink::new(out);
             let words = words.as_slice();
-            worldrun(&rt, rt.alloc(), words, &mut source, &mut sink, &NoPace).status
+            let ended = worldrun(&rt, rt.alloc(), words, &mut source, &mut sink, &NoPace);
+            sink.finish(ended.status)
         }
-        Err(status) => status,
+        (Err(status), _) => status,
+        (Ok(_), Err(_)) => Status::Memory,
     };
     tell(rt.alloc(), &status, &mut rt.stderr());
     ExitCode::from(exit_code(&status))

@@ -3,7 +3,7 @@ use crate::std_sink::StdSink;
 use crate::std_source::StdSource;
 use crate::tell;
 use std::io;
-use std::io::{ErrorKind, Read, Write};
+use std::io::{BufWriter, ErrorKind, Read, Write};
 use world_play::{Failed, PutErr, Sink, Source, Status};
 
 // Fails each time.
@@ -78,6 +78,28 @@ fn a_sink_writes_what_it_is_given(rt: HostRuntime) {
     assert_eq!(rt; sink.put(b"ab"), Ok(2));
     assert_eq!(rt; sink.put(b"c"), Ok(1));
     assert_eq!(rt; bytes.as_slice(), b"abc".as_slice());
+}
+
+#[test]
+fn a_buffer_is_written_at_the_end(rt: HostRuntime) {
+    let mut bytes = Vec::new(rt.alloc());
+    let out = BufWriter::new(rt.alloc(), &mut bytes).expect(&rt, "memory");
+    let mut sink = StdSink::new(out);
+    assert_eq!(rt; sink.put(b"ab"), Ok(2));
+    assert_eq!(rt; sink.put(b"c"), Ok(1));
+    assert_eq!(rt; sink.finish(Status::Ok), Status::Ok);
+    drop(sink);
+    assert_eq!(rt; bytes.as_slice(), b"abc".as_slice());
+}
+
+#[test]
+fn a_last_write_that_fails_is_told(rt: HostRuntime) {
+    let out = BufWriter::new(rt.alloc(), Broken).expect(&rt, "memory");
+    let mut sink = StdSink::new(out);
+    assert_eq!(rt; sink.put(b"a"), Ok(1));
+    assert_eq!(rt; sink.finish(Status::ReadFault), Status::ReadFault);
+    assert_eq!(rt; sink.finish(Status::Memory), Status::Memory);
+    assert_eq!(rt; sink.finish(Status::Ok), Status::WriteFault);
 }
 
 #[test]
