@@ -1,10 +1,10 @@
 -- Cutting an input into lines, and a line into words.
-use Rattle.std.proofs.Common.{◌≡◌, ℕ, ◌+◌, ◌<◌, ◌≤◌, ◌==◌, List, [], ◌∷◌, refl, sym, ap, ◌∙◌, subst, Bool, true, false, not, cond, map, filter, length, take, drop, arith, suc, slice_index, ◌-◌, MatchBool, Some, None}
+use Rattle.std.proofs.Common.{◌≡◌, ℕ, ◌+◌, ◌<◌, ◌≤◌, ◌==◌, List, [], ◌∷◌, refl, sym, ap, ◌∙◌, subst, Bool, true, false, not, cond, map, filter, length, take, drop, arith, suc, slice_index, ◌-◌, Some, None}
 use Rattle.std.specs.Prelude.{nat_lt, position}
 use Rattle.std.specs.List.{slice_split, onto_first, position_or_len, prefix_len}
 use Rattle.std.proofs.lemmas.Bool.{ltb-true}
 use Rattle.std.proofs.lemmas.Str.{IsAscii-take}
-use Rattle.std.specs.Str.{IsAscii, IsNotAscii}
+use Rattle.std.specs.Str.{IsAscii}
 use Rattle.std.proofs.lemmas.List.Splits.{slice_split_first}
 use Rattle.std.proofs.lemmas.List.Sums.{prefix_len-le-length}
 use Rattle.level_script.specs.Lines.{input_lines, lines_among, without_return, line_words, is_word, is_blank, BeginsWord}
@@ -155,8 +155,3 @@ ascii_one false xs ys h k = k
 -- a line of ASCII is ASCII without a carriage return too
 pub ascii_line : (line : List ℕ) → IsAscii line → IsAscii (without_return line)
 ascii_line line h = ascii_one (slice_index line (length line - 1) == 13) (take (length line - 1) line) line (IsAscii-take line (length line - 1) h) h
-
--- where the test says so, the bytes are ASCII
-pub ascii_if : (b : Bool) (bytes : List ℕ) → MatchBool b (IsAscii bytes) (IsNotAscii bytes) → b ≡ true → IsAscii bytes
-ascii_if true bytes h e = h
-ascii_if false bytes h e = absurd cc

@@ -19,7 +19,8 @@ fn word_at(bytes: &[u8], at: usize) -> u32
     u32::from_le_bytes([bytes[at], bytes[at + 1], bytes[at + 2], bytes[at + 3]])
 }
 
-// A number for a name, of its first and its last four bytes, or of each of fewer.
+// A number for a name, of its first and its last four bytes, or of each of fewer. No clause says
+// which, since only time rests on it.
 fn mix(name: &[u8]) -> u64 {
     let count = name.len();
     let key = if count >= 4 {
