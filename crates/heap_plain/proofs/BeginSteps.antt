@@ -305,6 +305,7 @@ module _ (z : Sizes) (p : Parts) (h new : List Entry) (cleared marked : List Boo
     none_agreed = ran.agreed;
     none_asked = λ ne. ran.asked;
     no_steps = ran.steps;
+    garbage = s.garbage;
   }
     where
       out : (x : ℕ) → (Among heads x → ⊥) → (get_or cleared x false ≡ true) ⊎ Among heads x → ⊥

@@ -29,6 +29,7 @@ new_parts lanes quota slots = record {
   plains = replicate (lanes * quota * slots) 0;
   lives = replicate (lanes * quota) Free;
   roots = replicate (lanes * quota) false;
+  garbage = replicate (lanes * quota) false;
   marked = replicate (lanes * quota) false;
   work = replicate (lanes * quota) 0;
   scanned = 0;
@@ -130,7 +131,7 @@ begins z lawful = record {
       living = λ n e. absurd cc;
       no_strong = λ lane number. refl;
     };
-    held = record { living = λ lane n e. absurd cc; closed = λ lane e. refl; paid = λ lane. refl };
+    held = record { living = λ lane n e. absurd cc; closed = λ lane e. refl; paid = λ lane. refl; whole = λ lane. refl };
     work = record { marked_len = length-replicate _ _; work_len = length-replicate _ _; order = omega arith; few = omega arith; entries = λ k h. absurd (omega arith) };
     idle = λ ne. refl;
     marks = λ e. absurd cc;
@@ -173,6 +174,7 @@ begins z lawful = record {
     none_agreed = refl;
     none_asked = λ ne. refl;
     no_steps = refl;
+    garbage = record { len = length-replicate _ _; each = λ i n there. absurd (no_name _ i n there.name) };
   };
 }
 

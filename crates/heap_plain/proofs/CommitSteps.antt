@@ -28,6 +28,7 @@ use Rattle.heap_plain.specs.Notes.{MayEnd, is_done}
 use Rattle.heap_plain.specs.Sweeping.{without, Removes}
 use Rattle.heap_plain.specs.Sections.{CellsShow, Distinct, UnitsShow, StandsAt, LivesAt, RootsShow, rooted_at, HeldShow, RemovedShow, removal_of, removal_at, GoneShow, LiesAt, at_end, FreeShows, free_at, spare_at, grey_of}
 use Rattle.heap_plain.specs.Plain.{Shows, IsPlain}
+use Rattle.heap_plain.proofs.GarbageSteps.{garbage_fewer}
 use Rattle.heap_plain.proofs.WorldFacts.{has_among, among_left, among_right}
 use Rattle.heap_plain.proofs.Fillings.{Lists-same, from_start}
 use Rattle.heap_plain.proofs.Entries.{plain_more, holds_more}
@@ -387,6 +388,7 @@ module _ (z : Sizes) (p : Parts) (h : List Entry) (lives : List Life) (was : IsP
     living = λ lane n e. absurd (let wrong : has [] n ≡ true = subst (λ (ns : List Name). has ns n ≡ true) (held_none lane) e in cc);
     closed = s.held.closed;
     paid = s.held.paid;
+    whole = s.held.whole;
   }
 
   no_polls : (i : ℕ) → get_or polls i 0 ≡ 0
@@ -533,6 +535,7 @@ module _ (z : Sizes) (p : Parts) (h : List Entry) (lives : List Life) (was : IsP
     none_agreed = refl;
     none_asked = λ ne. s.none_asked (λ e. let a = marking in cc);
     no_steps = refl;
+    garbage = garbage_fewer (λ i n a. record { name = a.name; life = (was_live i a.life).0 }) s.garbage;
   }
 
 pub commits_held : (h : List Entry) (names : List (Option Name)) (k : ℕ) (r : Ref) → Holds record { history = h; names = names } k r → Holds record { history = h ++ record { pass = Collector; act = act.CommitGc commit.Done } ∷ []; names = names } k r

@@ -18,6 +18,7 @@ use Rattle.world_model.specs.Histories.{after, state_of, MayBy}
 use Rattle.world_model.proofs.ListFacts.{Among, among_append, and_true, or_true, or_right}
 use Rattle.world_model.proofs.NameFacts.{names_from_range, set_at_same}
 use Rattle.world_model.proofs.Units.{AreApart, next_apart, units_apart}
+use Rattle.world_model.proofs.Invalid.{garbage_is_marked_holds}
 use Rattle.heap_plain.specs.Types.{Name, Ref, Kind, Lane, Phase, Entry}
 use Rattle.heap_plain.specs.Types.act
 use Rattle.heap_plain.specs.declared.life.Life.{Life}
@@ -26,7 +27,7 @@ use Rattle.heap_plain.specs.Parts.{Parts, name_at, life_at, first_at, next_at, k
 use Rattle.heap_plain.specs.Sweeping.{removed_name}
 use Rattle.heap_plain.specs.Filling.{FilledAt, RowsFilled}
 use Rattle.heap_plain.specs.Stacks.{popped}
-use Rattle.heap_plain.specs.Sections.{Distinct, NamesShow, IsOfLane, IsPlace, UnitsShow, StandsAt, LivesAt, AreLinked, RootsShow, rooted_at, HeldShow, WorkShows, MarksShow, RootsMarked, RemovedShow, GoneShow, LiesAt, KindsShow, CellsShow, Aims, TargetsMarked, FreeShows, spare_at, pushed_of, grey_of}
+use Rattle.heap_plain.specs.Sections.{Distinct, NamesShow, IsOfLane, IsPlace, UnitsShow, StandsAt, LivesAt, AreLinked, RootsShow, rooted_at, GarbageShow, HeldShow, WorkShows, MarksShow, RootsMarked, RemovedShow, GoneShow, LiesAt, KindsShow, CellsShow, Aims, TargetsMarked, FreeShows, spare_at, pushed_of, grey_of}
 use Rattle.heap_plain.specs.Plain.{Shows, IsPlain}
 use Rattle.heap_plain.proofs.WorldFacts.{at_set, set_at_other, has_among, among_has, among_left, among_right, test_among, among_test, any_same, unit_of_is, state_more}
 use Rattle.heap_plain.proofs.Fillings.{Lists-set, Lists-same}
@@ -40,7 +41,7 @@ use Rattle.heap_plain.proofs.Popping.{lane_below, Where, where_is, popped_lane, 
 use Rattle.heap_plain.proofs.NewNames.{length-names_from, has_in_row, row_place, distinct_row, count_row, among_members, distinct_append, given_members, members_given}
 
 -- a creation, and what its writes leave of the vectors
-pub record Creation (z : Sizes) (p : Parts) (h : List Entry) (l m : ℕ) (more : List Kind) (ns : List (Option Name)) (fs nx : List ℕ) (ks : List Kind) (ts : List (Option ℕ)) (ps : List ℕ) (ls : List Life) : Type 0 where
+pub record Creation (z : Sizes) (p : Parts) (h : List Entry) (l m : ℕ) (more : List Kind) (ns : List (Option Name)) (fs nx : List ℕ) (ks : List Kind) (ts : List (Option ℕ)) (ps : List ℕ) (ls : List Life) (gs : List Bool) : Type 0 where
   pub was : IsPlain z p h
   pub lane : l < z.lanes
   pub opened : is_open (after h) (Lane l) ≡ true
@@ -57,8 +58,9 @@ pub record Creation (z : Sizes) (p : Parts) (h : List Entry) (l m : ℕ) (more :
   pub by_target : RowsFilled p.targets ts (popped p.free (l * z.quota + spare_at p.spare l)) (length more) z.slots None
   pub by_plain : RowsFilled p.plains ps (popped p.free (l * z.quota + spare_at p.spare l)) (length more) z.slots 0
   pub by_next : FilledAt p.next nx (popped p.free (l * z.quota + spare_at p.spare l)) (length more - 1) (λ k. popped p.free (l * z.quota + spare_at p.spare l) (k + 1))
+  pub by_garbage : FilledAt p.garbage gs (popped p.free (l * z.quota + spare_at p.spare l)) (length more) (λ k. false)
 
-module _ {z : Sizes} {p : Parts} {h : List Entry} {l m : ℕ} {more : List Kind} {ns : List (Option Name)} {fs nx : List ℕ} {ks : List Kind} {ts : List (Option ℕ)} {ps : List ℕ} {ls : List Life} (new : Creation z p h l m more ns fs nx ks ts ps ls) where
+module _ {z : Sizes} {p : Parts} {h : List Entry} {l m : ℕ} {more : List Kind} {ns : List (Option Name)} {fs nx : List ℕ} {ks : List Kind} {ts : List (Option ℕ)} {ps : List ℕ} {ls : List Life} {gs : List Bool} (new : Creation z p h l m more ns fs nx ks ts ps ls gs) where
   abbrev s : Shows z p (state_of h)
   s = new.was.shows
 
@@ -327,7 +329,7 @@ module _ {z : Sizes} {p : Parts} {h : List Entry} {l m : ℕ} {more : List Kind}
   may_make : MayBy z (state_of h) (Lane l) (act.Make more (m + 1))
   may_make = record {
     in_range = new.lane;
-    frame = record { opened = new.opened; continues = rw (s.held.paid l) tt };
+    frame = record { opened = new.opened; continues = rw (s.held.paid l) tt; parts = rw (s.held.whole l) tt };
     may = record {
       some = new.some;
       few = new.few;
@@ -351,7 +353,7 @@ module _ {z : Sizes} {p : Parts} {h : List Entry} {l m : ℕ} {more : List Kind}
   gives = flat_map (unit_of new_world) unit ++ ((state_of h).frames l).held
 
   abbrev new_frame : Frame
-  new_frame = record ((state_of h).frames l) { held = gives; owed = None }
+  new_frame = record ((state_of h).frames l) { held = gives; owed = None; broken = []; loosened = [] }
 
   held_new : HeldShow ns ls (after h).opened (set_at (state_of h).frames l new_frame)
   held_new = record {
@@ -359,6 +361,7 @@ module _ {z : Sizes} {p : Parts} {h : List Entry} {l m : ℕ} {more : List Kind}
     closed = λ k e. at_set (λ (f : Frame). f.held ≡ []) (state_of h).frames l k new_frame
         (λ here. absurd (let wrong : list_any (same_pass (Lane l)) (after h).opened ≡ false = subst (λ (x : ℕ). list_any (same_pass (Lane x)) (after h).opened ≡ false) here e in cc)) (λ ne. s.held.closed k e);
     paid = λ k. at_set (λ (f : Frame). f.owed ≡ None) (state_of h).frames l k new_frame (λ e. refl) (λ ne. s.held.paid k);
+    whole = λ k. at_set (λ (f : Frame). f.broken ≡ []) (state_of h).frames l k new_frame (λ e. refl) (λ ne. s.held.whole k);
   }
     where
       own : (n : Name) → has gives n ≡ true → (i : ℕ) × LivesAt ns ls i n
@@ -607,9 +610,30 @@ module _ {z : Sizes} {p : Parts} {h : List Entry} {l m : ℕ} {more : List Kind}
           ap (λ (x : ℕ). get_or marked' x false) (first_out t (named_out t there.0 there.2.name))
           ∙ still_marked (first_at p.firsts t) (k.each i slot t was low aim before (λ a. g (subst (λ (x : ℕ). Among grey x) (sym head) a)))
 
+  -- ---- garbage
+
+  -- what is new is not garbage
+  not_garbage : (k : ℕ) → k < length more → (after h).garbage (record { lane = l; count = m + 1 + k }) ≡ false
+  not_garbage k below = go ((after h).garbage (record { lane = l; count = m + 1 + k })) refl
+    where
+      go : (b : Bool) → (after h).garbage (record { lane = l; count = m + 1 + k }) ≡ b → b ≡ false
+      go true e = absurd (let is_made = (garbage_is_marked_holds z h new.was.legal (record { lane = l; count = m + 1 + k })).made e in omega (arith, is_made.1, new.is))
+      go false e = refl
+
+  garbage_new : GarbageShow z ns ls gs (after h).garbage
+  garbage_new = record { len = new.by_garbage.len ∙ s.garbage.len; each = λ i n there. each i n there (where_is at (length more) i) }
+    where
+      each : (i : ℕ) (n : Name) → LivesAt ns ls i n → Where at (length more) i → get_or gs i false ≡ (after h).garbage n
+      each i n there (inl w) =
+          let named : ◌≡◌ {A = Option Name} (Some (record { lane = l; count = m + 1 + w.0 })) (Some n) = sym (name_in w.0 i w.1 w.2) ∙ there.name in
+          let same : record { lane = l; count = m + 1 + w.0 } ≡ n = cc in
+          ap (λ (x : ℕ). get_or gs x false) w.2 ∙ new.by_garbage.inside w.0 false w.1 ∙ sym (not_garbage w.0 w.1) ∙ ap (λ (x : Name). (after h).garbage x) same
+      each i n there (inr o) =
+          new.by_garbage.outside i false o ∙ s.garbage.each i n (record { name = sym (name_out i o) ∙ there.name; life = sym (life_out i o) ∙ there.life })
+
   -- ---- all of it
 
-  pub creates : IsPlain z (record p { names = ns; firsts = fs; sizes = sizes'; next = nx; kinds = ks; targets = ts; plains = ps; lives = ls; marked = marked'; spare = set p.spare l (spare_at p.spare l - length more); made = set p.made l (m + length more) }) (h ++ record { pass = Lane l; act = act.Make more (m + 1) } ∷ [])
+  pub creates : IsPlain z (record p { names = ns; firsts = fs; sizes = sizes'; next = nx; kinds = ks; targets = ts; plains = ps; lives = ls; garbage = gs; marked = marked'; spare = set p.spare l (spare_at p.spare l - length more); made = set p.made l (m + length more) }) (h ++ record { pass = Lane l; act = act.Make more (m + 1) } ∷ [])
   creates = plain_more z p _ h (record { pass = Lane l; act = act.Make more (m + 1) } ∷ []) new.was (may_make, tt) record {
     phase = s.phase;
     frames = s.frames;
@@ -634,6 +658,7 @@ module _ {z : Sizes} {p : Parts} {h : List Entry} {l m : ℕ} {more : List Kind}
     none_agreed = s.none_agreed;
     none_asked = s.none_asked;
     no_steps = s.no_steps;
+    garbage = garbage_new;
   }
 
   abbrev made_entry : Entry

@@ -35,6 +35,7 @@ held_open names lives opened frames l s = record {
   living = λ k n. at_set (λ (f : Frame). has f.held n ≡ true → (i : ℕ) × LivesAt names lives i n) frames l k no_frame (λ e h. absurd cc) (λ ne. s.living k n);
   closed = λ k h. at_set (λ (f : Frame). f.held ≡ []) frames l k no_frame (λ e. refl) (λ ne. s.closed k (or_parts _ _ h).1);
   paid = λ k. at_set (λ (f : Frame). f.owed ≡ None) frames l k no_frame (λ e. refl) (λ ne. s.paid k);
+  whole = λ k. at_set (λ (f : Frame). f.broken ≡ []) frames l k no_frame (λ e. refl) (λ ne. s.whole k);
 }
 
 pub opens : (z : Sizes) (p : Parts) (h : List Entry) (l : ℕ) → IsPlain z p h → l < z.lanes → is_open (after h) (Lane l) ≡ false
@@ -65,6 +66,7 @@ opens z p h l was lane closed =
       none_agreed = s.none_agreed;
       none_asked = s.none_asked;
       no_steps = s.no_steps;
+      garbage = s.garbage;
     }
 
 pub held_opens : (z : Sizes) (p : Parts) (h : List Entry) (l : ℕ) → IsPlain z p h → is_open (after h) (Lane l) ≡ false → (k : ℕ) (r : Ref)
@@ -95,13 +97,14 @@ held_close names lives opened frames l s = record {
   living = λ k n. at_set (λ (f : Frame). has f.held n ≡ true → (i : ℕ) × LivesAt names lives i n) frames l k no_frame (λ e h. absurd cc) (λ ne. s.living k n);
   closed = λ k h. at_set (λ (f : Frame). f.held ≡ []) frames l k no_frame (λ e. refl) (λ ne. s.closed k (sym (any_kept (same_pass (Lane k)) _ opened (λ q. other_lane l k q (eqb-false k l ne))) ∙ h));
   paid = λ k. at_set (λ (f : Frame). f.owed ≡ None) frames l k no_frame (λ e. refl) (λ ne. s.paid k);
+  whole = λ k. at_set (λ (f : Frame). f.broken ≡ []) frames l k no_frame (λ e. refl) (λ ne. s.whole k);
 }
 
 pub closes : (z : Sizes) (p : Parts) (h : List Entry) (l : ℕ) → IsPlain z p h → l < z.lanes → is_open (after h) (Lane l) ≡ true
     → IsPlain z (record p { frames = set p.frames l false }) (h ++ record { pass = Lane l; act = act.FrameClose } ∷ [])
 closes z p h l was lane is =
     let s = was.shows in
-    plain_more z p _ h (record { pass = Lane l; act = act.FrameClose } ∷ []) was (record { in_range = lane; frame = record { opened = is; continues = rw (s.held.paid l) tt }; may = tt }, tt) record {
+    plain_more z p _ h (record { pass = Lane l; act = act.FrameClose } ∷ []) was (record { in_range = lane; frame = record { opened = is; continues = rw (s.held.paid l) tt; parts = rw (s.held.whole l) tt }; may = tt }, tt) record {
       phase = s.phase;
       frames = frames_close z p.frames _ l s.frames lane is;
       names = s.names;
@@ -125,6 +128,7 @@ closes z p h l was lane is =
       none_agreed = s.none_agreed;
       none_asked = s.none_asked;
       no_steps = s.no_steps;
+      garbage = s.garbage;
     }
 
 pub held_closes : (h : List Entry) (names : List (Option Name)) (l k : ℕ) (r : Ref) → k ≢ l

@@ -23,7 +23,10 @@ pub mod BeginSteps
 pub mod SliceSteps
 pub mod UnitSteps
 pub mod MarkSlices
+pub mod GarbageSteps
 pub mod StoreSteps
+pub mod PartSteps
+pub mod Dissolving
 pub mod CommitSteps
 pub mod Gathering
 pub mod SweepSteps

@@ -82,7 +82,7 @@ module _ (z : Sizes) (p : Parts) (h : List Entry) (marker budget : ℕ) (was : I
 -- ---- a unit is scanned
 
 -- a member of a unit, along its links
-linked_member : (names : List (Option Name)) (links : List ℕ) (i : ℕ) (u : List Name) → AreLinked names links i u → (k : ℕ) → k < length u → (n : Name) × (name_at names (chained links i k) ≡ Some n) × (has u n ≡ true)
+pub linked_member : (names : List (Option Name)) (links : List ℕ) (i : ℕ) (u : List Name) → AreLinked names links i u → (k : ℕ) → k < length u → (n : Name) × (name_at names (chained links i k) ≡ Some n) × (has u n ≡ true)
 linked_member names links i [] h k b = absurd (omega arith)
 linked_member names links i (n ∷ u) h zero b = (n, h.0, let t = same_name_refl n in rw t refl)
 linked_member names links i (n ∷ u) h (suc k) b =
@@ -331,6 +331,7 @@ module _ {z : Sizes} {old : Shown} {marker budget total : ℕ} {p : Parts} {hist
       none_agreed = ran.agreed ∙ k.none_agreed;
       none_asked = λ ne. ran.asked ∙ k.none_asked ne;
       no_steps = ran.steps ∙ k.no_steps;
+      garbage = k.garbage;
     }
 
     sliced_end : Sliced z (state_of old.history) marker budget (total + size) q end

@@ -27,6 +27,7 @@ use Rattle.heap_plain.specs.Parts.{Parts, name_at, life_at, first_at, is_gone, s
 use Rattle.heap_plain.specs.Purging.{turned, next_poll, finished_unit, asked_acts}
 use Rattle.heap_plain.specs.Sections.{Distinct, AreLinked, RemovedShow, removal_at, GoneShow, LiesAt, OrderShows, QueueShows, AreNamed, ReadyAt, gone_world, todo_of, ring_of, at_end, still_there}
 use Rattle.heap_plain.specs.Plain.{Shows, calm}
+use Rattle.heap_plain.proofs.GarbageSteps.{garbage_fewer}
 use Rattle.heap_plain.proofs.WorldFacts.{differs, has_among, among_has}
 use Rattle.heap_plain.proofs.NewNames.{among_members}
 use Rattle.heap_plain.proofs.Cells.{cells_less}
@@ -72,6 +73,7 @@ purged_shows k idle same removed gone counts order queue agreed steps = record {
   none_agreed = agreed;
   none_asked = λ ne. absurd (ne idle);
   no_steps = steps;
+  garbage = garbage_fewer (λ i n a. record { name = a.name; life = same.was_live i a.life }) k.garbage;
 }
 
 pub count_alike : (p q : Name → Bool) (u : List Name) → ((n : Name) → Among u n → p n ≡ q n) → count_by p u ≡ count_by q u

@@ -43,4 +43,5 @@ quiet_shows z p s moments slices collector agreed asked steps h = record {
   none_agreed = agreed;
   none_asked = λ ne. asked ∙ h.none_asked ne;
   no_steps = steps;
+  garbage = h.garbage;
 }

@@ -21,13 +21,14 @@ use Rattle.heap_plain.proofs.Entries.{plain_more, holds_more}
 
 -- the frame of a lane that was given nothing
 abbrev pub unchanged : Frame → Frame
-unchanged f = record f { held = f.held; owed = None }
+unchanged f = record f { held = f.held; owed = None; broken = []; loosened = [] }
 
 pub held_same : (names : List (Option Name)) (lives : List Life) (opened : List Pass) (frames : ℕ → Frame) (l : ℕ) → HeldShow names lives opened frames → HeldShow names lives opened (set_at frames l (unchanged (frames l)))
 held_same names lives opened frames l s = record {
   living = λ k n. at_set (λ (f : Frame). has f.held n ≡ true → (i : ℕ) × LivesAt names lives i n) frames l k (unchanged (frames l)) (λ e. s.living l n) (λ ne. s.living k n);
   closed = λ k h. at_set (λ (f : Frame). f.held ≡ []) frames l k (unchanged (frames l)) (λ e. s.closed l (subst (λ (x : ℕ). list_any (same_pass (Lane x)) opened ≡ false) e h)) (λ ne. s.closed k h);
   paid = λ k. at_set (λ (f : Frame). f.owed ≡ None) frames l k (unchanged (frames l)) (λ e. refl) (λ ne. s.paid k);
+  whole = λ k. at_set (λ (f : Frame). f.broken ≡ []) frames l k (unchanged (frames l)) (λ e. refl) (λ ne. s.whole k);
 }
 
 pub keeps_held : (frames : ℕ → Frame) (l k : ℕ) (n : Name) → has (frames k).held n ≡ true → has (set_at frames l (unchanged (frames l)) k).held n ≡ true
@@ -38,7 +39,7 @@ pub refuses : (z : Sizes) (p : Parts) (h : List Entry) (l m asked left room : �
 refuses z p h l m asked names room (create.NamesSpent left) was lane opened is by_names by_stack d =
     let s = was.shows in
     plain_more z p p h (record { pass = Lane l; act = act.NamesSpent asked left } ∷ []) was
-    (record { in_range = lane; frame = record { opened = opened; continues = rw (s.held.paid l) tt }; may = record { rest = omega (arith, d.0); short = d.1 } }, tt)
+    (record { in_range = lane; frame = record { opened = opened; continues = rw (s.held.paid l) tt; parts = rw (s.held.whole l) tt }; may = record { rest = omega (arith, d.0); short = d.1 } }, tt)
     (record {
       phase = s.phase;
       frames = s.frames;
@@ -63,11 +64,12 @@ refuses z p h l m asked names room (create.NamesSpent left) was lane opened is b
       none_agreed = s.none_agreed;
       none_asked = s.none_asked;
       no_steps = s.no_steps;
+      garbage = s.garbage;
     })
 refuses z p h l m asked names room (create.Full free) was lane opened is by_names by_stack d =
     let s = was.shows in
     plain_more z p p h (record { pass = Lane l; act = act.Full asked free } ∷ []) was
-    (record { in_range = lane; frame = record { opened = opened; continues = rw (s.held.paid l) tt }; may = record { names = omega (arith, d.0); rest = omega (arith, d.1, s.free.count l lane); short = d.2 } }, tt)
+    (record { in_range = lane; frame = record { opened = opened; continues = rw (s.held.paid l) tt; parts = rw (s.held.whole l) tt }; may = record { names = omega (arith, d.0); rest = omega (arith, d.1, s.free.count l lane); short = d.2 } }, tt)
     (record {
       phase = s.phase;
       frames = s.frames;
@@ -92,6 +94,7 @@ refuses z p h l m asked names room (create.Full free) was lane opened is by_name
       none_agreed = s.none_agreed;
       none_asked = s.none_asked;
       no_steps = s.no_steps;
+      garbage = s.garbage;
     })
 
 pub refuses_held : (h : List Entry) (names : List (Option Name)) (l asked : ℕ) (e : CreateErr) (k : ℕ) (r : Ref) → Holds record { history = h; names = names } k r

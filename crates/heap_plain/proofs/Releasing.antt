@@ -22,6 +22,7 @@ use Rattle.heap_plain.specs.Listing.{chained}
 use Rattle.heap_plain.specs.Purging.{Stocks, give_all, CanGive}
 use Rattle.heap_plain.specs.Sections.{Distinct, NamesShow, UnitsShow, StandsAt, LivesAt, AreLinked, RootsShow, rooted_at, HeldShow, RemovedShow, removal_at, removal_of, GoneAt, GoneShow, LiesAt, KindsShow, CellsShow, QueueShows, AreNamed, ReadyAt, FreeShows, gone_world, todo_of, at_end, still_there}
 use Rattle.heap_plain.specs.Plain.{Shows, calm}
+use Rattle.heap_plain.proofs.GarbageSteps.{garbage_fewer}
 use Rattle.heap_plain.proofs.Cells.{cells_less}
 use Rattle.heap_plain.proofs.WorldFacts.{has_among, among_has, among_test, test_among, no_longer}
 use Rattle.heap_plain.proofs.Fillings.{Lists-same}
@@ -403,7 +404,7 @@ module _ (z : Sizes) (p : Parts) (s : State) (k : Shows z p (calm s)) (idle : p.
           go (inr a) = ap (rooted_at w.rooted) ((stays i m e a).0 ∙ sym e)
 
   held' : HeldShow t.names t.lives w.opened s.frames
-  held' = record { living = λ lane m e. let j = k.held.living lane m e in (j.0, still_lives j.0 m j.1); closed = k.held.closed; paid = k.held.paid }
+  held' = record { living = λ lane m e. let j = k.held.living lane m e in (j.0, still_lives j.0 m j.1); closed = k.held.closed; paid = k.held.paid; whole = k.held.whole }
 
   kinds' : KindsShow z t.names p.kinds w.kinds
   kinds' = record { len = k.kinds.len; each = λ i m h. k.kinds.each i m (was_named i m h).0; fit = k.kinds.fit }
@@ -557,6 +558,7 @@ module _ (z : Sizes) (p : Parts) (s : State) (k : Shows z p (calm s)) (idle : p.
     none_agreed = refl;
     none_asked = λ ne. absurd (ne idle);
     no_steps = refl;
+    garbage = garbage_fewer lived k.garbage;
   }
 
   -- what a frame holds keeps its place

@@ -97,7 +97,7 @@ module _ {names : List (Option Name)} {lives ls : List Life} (same : SameLives l
   }
 
   pub held_lives : {opened : List Pass} {frames : ℕ → Frame} → HeldShow names lives opened frames → HeldShow names ls opened frames
-  held_lives hs = record { living = λ lane n e. let j = hs.living lane n e in (j.0, lives_there j.0 n j.1); closed = hs.closed; paid = hs.paid }
+  held_lives hs = record { living = λ lane n e. let j = hs.living lane n e in (j.0, lives_there j.0 n j.1); closed = hs.closed; paid = hs.paid; whole = hs.whole }
 
   pub free_lives : {z : Sizes} {free spare : List ℕ} {units : List (List Name)} {removals rs : List Removal} → ((lane : ℕ) → count_by (λ r. r.name.lane == lane) rs ≡ count_by (λ r. r.name.lane == lane) removals)
       → FreeShows z names lives free spare units removals → FreeShows z names ls free spare units rs

@@ -97,6 +97,7 @@ held_marked names lives opened frames l of s = record {
       (λ e. subst (λ (f : Frame). f.held ≡ []) (sym (set_at_same frames l (marking_frame (frames l) of))) (s.closed l (subst (λ (x : ℕ). list_any (same_pass (Lane x)) opened ≡ false) e h)))
       (λ ne. at_set (λ (f : Frame). f.held ≡ []) frames l k (marking_frame (frames l) of) (λ e. s.closed l (subst (λ (x : ℕ). list_any (same_pass (Lane x)) opened ≡ false) e h)) (λ no. s.closed k h));
   paid = λ k. at_set (λ (f : Frame). f.owed ≡ None) (marked_frames frames l of) l k (unchanged (marked_frames frames l of l)) (λ e. refl) (λ ne. at_set (λ (f : Frame). f.owed ≡ None) frames l k (marking_frame (frames l) of) (λ e. absurd (eqb-false k l ne e)) (λ no. s.paid k));
+  whole = λ k. at_set (λ (f : Frame). f.broken ≡ []) (marked_frames frames l of) l k (unchanged (marked_frames frames l of l)) (λ e. refl) (λ ne. at_set (λ (f : Frame). f.broken ≡ []) frames l k (marking_frame (frames l) of) (λ e. s.whole l) (λ no. s.whole k));
 }
 
 keeps_marked : (frames : ℕ → Frame) (l k : ℕ) (of n : Name) → has (frames k).held n ≡ true
@@ -153,7 +154,7 @@ module _ (z : Sizes) (p : Parts) (h : List Entry) (l : ℕ) (at : Ref) (was : Is
   roots_plain on old is shaded = plain_more z p _ h (record { pass = Lane l; act = act.Root n on old } ∷ []) was (
     record {
       in_range = lane;
-      frame = record { opened = opened; continues = rw (s.held.paid l) tt };
+      frame = record { opened = opened; continues = rw (s.held.paid l) tt; parts = rw (s.held.whole l) tt };
       may = record { held = held.given; was = was_rooted old is; shaded = λ o e. sym (marked_is (s.phase ∙ e)) ∙ shaded o (s.phase ∙ e) };
     },
     tt,
@@ -182,6 +183,7 @@ module _ (z : Sizes) (p : Parts) (h : List Entry) (l : ℕ) (at : Ref) (was : Is
         none_agreed = s.none_agreed;
         none_asked = s.none_asked;
         no_steps = s.no_steps;
+        garbage = s.garbage;
       })
 
   pub roots_held : (on old : Bool) (k : ℕ) (r : Ref) → Holds record { history = h; names = p.names } k r → Holds record { history = h ++ record { pass = Lane l; act = act.Root n on old } ∷ []; names = p.names } k r
@@ -211,7 +213,7 @@ module _ (z : Sizes) (p : Parts) (h : List Entry) (l : ℕ) (at : Ref) (was : Is
     pub may_keep : MayBy z (state_of h) (Lane l) (act.Kept n)
     may_keep = record {
       in_range = lane;
-      frame = record { opened = opened; continues = rw (s.held.paid l) tt };
+      frame = record { opened = opened; continues = rw (s.held.paid l) tt; parts = rw (s.held.whole l) tt };
       may = record {
         white = record { marking = sym s.phase ∙ e; living = in_world_of (after h).units u n stands.among member; unmarked = sym (marked_is e) ∙ white };
         held = held.given;
@@ -241,7 +243,7 @@ module _ (z : Sizes) (p : Parts) (h : List Entry) (l : ℕ) (at : Ref) (was : Is
     (
       record {
         in_range = lane;
-        frame = record { opened = opened; continues = rw (set_at_same (state_of h).frames l f1) (rw unit_is member) };
+        frame = record { opened = opened; continues = rw (set_at_same (state_of h).frames l f1) (rw unit_is member); parts = rw (set_at_same (state_of h).frames l f1) (rw (s.held.whole l) tt) };
         may = record {
           held = rw (set_at_same (state_of h).frames l f1) held.given;
           was = was_rooted old is;
@@ -275,6 +277,7 @@ module _ (z : Sizes) (p : Parts) (h : List Entry) (l : ℕ) (at : Ref) (was : Is
         none_agreed = s.none_agreed;
         none_asked = s.none_asked;
         no_steps = s.no_steps;
+        garbage = s.garbage;
       })
 
   pub shaded_held : (old : Bool) (k : ℕ) (r : Ref) → Holds record { history = h; names = p.names } k r → Holds record { history = h ++ both old; names = p.names } k r

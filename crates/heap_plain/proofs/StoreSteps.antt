@@ -38,6 +38,7 @@ use Rattle.heap_plain.proofs.RootSteps as root
 pub record Gives (frames new : ℕ → Frame) (l : ℕ) (gives : List Name) : Type 0 where
   pub own : (new l).held ≡ gives ++ (frames l).held
   pub paid : (new l).owed ≡ None
+  pub whole : (new l).broken ≡ []
   pub others : (k : ℕ) → k ≢ l → new k ≡ frames k
 
 pub held_gives : {names : List (Option Name)} {lives : List Life} {opened : List Pass} {frames new : ℕ → Frame} {l : ℕ} {gives : List Name} → Gives frames new l gives → list_any (same_pass (Lane l)) opened ≡ true
@@ -52,6 +53,9 @@ held_gives {names} {lives} {opened} {frames} {new} {l} {gives} g is_open_now liv
   paid = λ k. dite (ℕ_discrete k l)
       (λ (same : k ≡ l). ap (λ (x : ℕ). (new x).owed) same ∙ g.paid)
       (λ (ne : k ≢ l). ap (λ (f : Frame). f.owed) (g.others k ne) ∙ s.paid k);
+  whole = λ k. dite (ℕ_discrete k l)
+      (λ (same : k ≡ l). ap (λ (x : ℕ). (new x).broken) same ∙ g.whole)
+      (λ (ne : k ≢ l). ap (λ (f : Frame). f.broken) (g.others k ne) ∙ s.whole k);
 }
   where
     either : (m : Name) → (has gives m ≡ true) ⊎ (has (frames l).held m ≡ true) → (i : ℕ) × LivesAt names lives i m
@@ -68,22 +72,24 @@ gives_now : {frames new : ℕ → Frame} {l : ℕ} {gives : List Name} → Gives
 gives_now {frames} {l = l} {gives} g m e = ap (λ (ns : List Name). has ns m) g.own ∙ list_any-append (same_name m) gives (frames l).held ∙ (let t = e in rw t refl)
 
 -- one entry that gives
-gives_one : (frames : ℕ → Frame) (l : ℕ) (gives : List Name) → Gives frames (set_at frames l (record (frames l) { held = gives ++ (frames l).held; owed = None })) l gives
+gives_one : (frames : ℕ → Frame) (l : ℕ) (gives : List Name) → Gives frames (set_at frames l (record (frames l) { held = gives ++ (frames l).held; owed = None; broken = []; loosened = [] })) l gives
 gives_one frames l gives = record {
-  own = ap (λ (f : Frame). f.held) (set_at_same frames l (record (frames l) { held = gives ++ (frames l).held; owed = None }));
-  paid = ap (λ (f : Frame). f.owed) (set_at_same frames l (record (frames l) { held = gives ++ (frames l).held; owed = None }));
-  others = λ k ne. set_at_other frames l k (record (frames l) { held = gives ++ (frames l).held; owed = None }) ne;
+  own = ap (λ (f : Frame). f.held) (set_at_same frames l (record (frames l) { held = gives ++ (frames l).held; owed = None; broken = []; loosened = [] }));
+  paid = ap (λ (f : Frame). f.owed) (set_at_same frames l (record (frames l) { held = gives ++ (frames l).held; owed = None; broken = []; loosened = [] }));
+  whole = ap (λ (f : Frame). f.broken) (set_at_same frames l (record (frames l) { held = gives ++ (frames l).held; owed = None; broken = []; loosened = [] }));
+  others = λ k ne. set_at_other frames l k (record (frames l) { held = gives ++ (frames l).held; owed = None; broken = []; loosened = [] }) ne;
 }
 
 -- one that gives, after a note
 gives_two : (frames : ℕ → Frame) (l : ℕ) (of : Name) (gives : List Name)
-    → Gives frames (set_at (root.marked_frames frames l of) l (record (root.marked_frames frames l of l) { held = gives ++ (root.marked_frames frames l of l).held; owed = None })) l gives
+    → Gives frames (set_at (root.marked_frames frames l of) l (record (root.marked_frames frames l of l) { held = gives ++ (root.marked_frames frames l of l).held; owed = None; broken = []; loosened = [] })) l gives
 gives_two frames l of gives =
     let mid : ℕ → Frame = root.marked_frames frames l of in
-    let last : Frame = record (mid l) { held = gives ++ (mid l).held; owed = None } in
+    let last : Frame = record (mid l) { held = gives ++ (mid l).held; owed = None; broken = []; loosened = [] } in
     record {
       own = ap (λ (f : Frame). f.held) (set_at_same mid l last) ∙ ap (λ (f : Frame). gives ++ f.held) (set_at_same frames l (root.marking_frame (frames l) of));
       paid = ap (λ (f : Frame). f.owed) (set_at_same mid l last);
+      whole = ap (λ (f : Frame). f.broken) (set_at_same mid l last);
       others = λ k ne. set_at_other mid l k last ne ∙ set_at_other frames l k (root.marking_frame (frames l) of) ne;
     }
 
@@ -140,7 +146,7 @@ module _ (z : Sizes) (p : Parts) (h : List Entry) (l : ℕ) (at : Ref) (was : Is
   plain_read slot got low high is = plain_more z p p h (read_plain_entry slot got ∷ []) was (
     record {
       in_range = lane;
-      frame = record { opened = opened; continues = rw (s.held.paid l) tt };
+      frame = record { opened = opened; continues = rw (s.held.paid l) tt; parts = rw (s.held.whole l) tt };
       may = (record { held = held.given; first = low; last = high }, is ∙ s.cells.numbers at.index n slot here high);
     },
     tt,
@@ -169,6 +175,7 @@ module _ (z : Sizes) (p : Parts) (h : List Entry) (l : ℕ) (at : Ref) (was : Is
         none_agreed = s.none_agreed;
         none_asked = s.none_asked;
         no_steps = s.no_steps;
+        garbage = s.garbage;
       })
 
   pub plain_read_held : (slot got : ℕ) (k : ℕ) (r : Ref) → Holds record { history = h; names = p.names } k r → Holds record { history = h ++ read_plain_entry slot got ∷ []; names = p.names } k r
@@ -182,7 +189,7 @@ module _ (z : Sizes) (p : Parts) (h : List Entry) (l : ℕ) (at : Ref) (was : Is
   plain_write slot value got low high is = plain_more z p _ h (write_plain_entry slot value got ∷ []) was (
     record {
       in_range = lane;
-      frame = record { opened = opened; continues = rw (s.held.paid l) tt };
+      frame = record { opened = opened; continues = rw (s.held.paid l) tt; parts = rw (s.held.whole l) tt };
       may = (record { held = held.given; first = low; last = high }, is ∙ s.cells.numbers at.index n slot here high);
     },
     tt,
@@ -211,6 +218,7 @@ module _ (z : Sizes) (p : Parts) (h : List Entry) (l : ℕ) (at : Ref) (was : Is
         none_agreed = s.none_agreed;
         none_asked = s.none_asked;
         no_steps = s.no_steps;
+        garbage = s.garbage;
       })
 
   pub plain_write_held : (slot value got : ℕ) (k : ℕ) (r : Ref) → Holds record { history = h; names = p.names } k r → Holds record { history = h ++ write_plain_entry slot value got ∷ []; names = p.names } k r
@@ -286,7 +294,7 @@ module _ (z : Sizes) (p : Parts) (h : List Entry) (l : ℕ) (at : Ref) (was : Is
     ref_read = plain_more z p p h (read_entry slot got ∷ []) was (
       record {
         in_range = lane;
-        frame = record { opened = opened; continues = rw (s.held.paid l) tt };
+        frame = record { opened = opened; continues = rw (s.held.paid l) tt; parts = rw (s.held.whole l) tt };
         may = (record { held = held.given; in_range = is_ref }, got_is);
       },
       tt,
@@ -315,6 +323,7 @@ module _ (z : Sizes) (p : Parts) (h : List Entry) (l : ℕ) (at : Ref) (was : Is
           none_agreed = s.none_agreed;
           none_asked = s.none_asked;
           no_steps = s.no_steps;
+          garbage = s.garbage;
         })
 
     pub ref_read_held : (k : ℕ) (r : Ref) → Holds record { history = h; names = p.names } k r → Holds record { history = h ++ read_entry slot got ∷ []; names = p.names } k r
@@ -402,7 +411,7 @@ module _ (z : Sizes) (p : Parts) (h : List Entry) (l : ℕ) (at : Ref) (was : Is
     stay_plain to k e = plain_more z p _ h (write_entry to ∷ []) was (
       record {
         in_range = lane;
-        frame = record { opened = opened; continues = rw (s.held.paid l) tt };
+        frame = record { opened = opened; continues = rw (s.held.paid l) tt; parts = rw (s.held.whole l) tt };
         may = record { place = record { held = held.given; in_range = is_ref }; held = stored_names to k; was = old_is; shaded = stored_shaded to k e };
       },
       tt,
@@ -431,6 +440,7 @@ module _ (z : Sizes) (p : Parts) (h : List Entry) (l : ℕ) (at : Ref) (was : Is
           none_agreed = s.none_agreed;
           none_asked = s.none_asked;
           no_steps = s.no_steps;
+          garbage = s.garbage;
         })
 
     stays : (to : Option Ref) → Stored to → must_shade p.phase p.firsts p.marked to ≡ false → Written to p.marked p.work p.pushed (h ++ write_entry to ∷ [])
@@ -466,7 +476,7 @@ module _ (z : Sizes) (p : Parts) (h : List Entry) (l : ℕ) (at : Ref) (was : Is
         (
           record {
             in_range = lane;
-            frame = record { opened = opened; continues = rw (set_at_same (state_of h).frames l f1) (ap (λ (v : List Name). has v r.name) unit_is ∙ root.member z p h l r was lane opened k) };
+            frame = record { opened = opened; continues = rw (set_at_same (state_of h).frames l f1) (ap (λ (v : List Name). has v r.name) unit_is ∙ root.member z p h l r was lane opened k); parts = rw (set_at_same (state_of h).frames l f1) (rw (s.held.whole l) tt) };
             may = record {
               place = record { held = rw (set_at_same (state_of h).frames l f1) held.given; in_range = is_ref };
               held = rw (set_at_same (state_of h).frames l f1) k.given;
@@ -503,6 +513,7 @@ module _ (z : Sizes) (p : Parts) (h : List Entry) (l : ℕ) (at : Ref) (was : Is
             none_agreed = s.none_agreed;
             none_asked = s.none_asked;
             no_steps = s.no_steps;
+            garbage = s.garbage;
           })
 
       shades : Written (Some r) (set p.marked head true) (set p.work p.pushed head) (p.pushed + 1) (h ++ both)

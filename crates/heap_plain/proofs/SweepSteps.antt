@@ -137,6 +137,7 @@ refuses_sweep z p h budget was other =
       none_agreed = refl;
       none_asked = s.none_asked;
       no_steps = refl;
+      garbage = s.garbage;
     })
   where
     nothing : (looked : ℕ) → looked ≡ looked + 0
@@ -334,6 +335,7 @@ module _ (z : Sizes) (p : Parts) (h : List Entry) (budget looked count : ℕ) (w
         none_agreed = refl;
         none_asked = s.none_asked;
         no_steps = refl;
+        garbage = s.garbage;
       })
     where
       left_gathering : (after h).phase ≡ Gathering → count_left (after h).phase (after h).removals found' ≡ length found'
@@ -424,6 +426,7 @@ module _ (z : Sizes) (p : Parts) (h : List Entry) (budget looked count : ℕ) (w
         none_agreed = refl;
         none_asked = λ ne. absurd (ne refl);
         no_steps = refl;
+        garbage = s.garbage;
       })
     where
       none_from : 0 ≡ p.from

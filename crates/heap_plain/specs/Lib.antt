@@ -16,3 +16,4 @@ pub mod Plain
 -- what the functions that mark and store do
 pub mod Shading
 pub mod Storing
+pub mod Parting

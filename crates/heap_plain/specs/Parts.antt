@@ -49,6 +49,7 @@ pub record Parts : Type 0 where
   pub plains : List ℕ
   pub lives : List Life
   pub roots : List Bool
+  pub garbage : List Bool
   pub marked : List Bool
   pub work : List ℕ
   pub scanned : ℕ

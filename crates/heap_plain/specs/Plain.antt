@@ -12,7 +12,7 @@ use Rattle.world_model.specs.Calls.{by, is_mark_note, is_purge_part, is_purge_st
 use Rattle.world_model.specs.MarkerSteps.{member_count, WasWithin}
 use Rattle.world_model.specs.Hooks.{ReadyTest, SameTest, AreCalledFor, Meets}
 use Rattle.heap_plain.specs.Parts.{Parts, Shown, Holds}
-use Rattle.heap_plain.specs.Sections.{Distinct, FramesShow, NamesShow, UnitsShow, RootsShow, HeldShow, WorkShows, MarksShow, RootsMarked, RemovedShow, GoneShow, KindsShow, CellsShow, TargetsMarked, OrderShows, QueueShows, GatherShows, FreeShows, pushed_of, grey_of}
+use Rattle.heap_plain.specs.Sections.{Distinct, FramesShow, NamesShow, UnitsShow, RootsShow, GarbageShow, HeldShow, WorkShows, MarksShow, RootsMarked, RemovedShow, GoneShow, KindsShow, CellsShow, TargetsMarked, OrderShows, QueueShows, GatherShows, FreeShows, pushed_of, grey_of}
 
 -- the vectors show the state
 pub record Shows (z : Sizes) (p : Parts) (s : State) : Type 0 where
@@ -39,6 +39,7 @@ pub record Shows (z : Sizes) (p : Parts) (s : State) : Type 0 where
   pub none_agreed : s.collector.agreed ≡ None
   pub none_asked : p.phase ≢ Idle → s.collector.asked ≡ None
   pub no_steps : s.collector.steps ≡ 0
+  pub garbage : GarbageShow z p.names p.lives p.garbage s.world.garbage
 
 -- the history is legal, and the vectors show the state that it leaves
 pub record IsPlain (z : Sizes) (p : Parts) (history : List Entry) : Type 0 where

@@ -98,12 +98,20 @@ pub record RootsShow (z : Sizes) (names : List (Option Name)) (lives : List Life
   pub living : (n : Name) → rooted n ≡ true → (i : ℕ) × LivesAt names lives i n
   pub no_strong : (lane number : ℕ) → strong lane number ≡ None
 
+-- ---- garbage
+
+-- at the index of each living object, whether it is garbage
+pub record GarbageShow (z : Sizes) (names : List (Option Name)) (lives : List Life) (bits : List Bool) (garbage : Name → Bool) : Type 0 where
+  pub len : length bits ≡ item_count z
+  pub each : (i : ℕ) (n : Name) → LivesAt names lives i n → get_or bits i false ≡ garbage n
+
 -- ---- what frames hold
 
 pub record HeldShow (names : List (Option Name)) (lives : List Life) (opened : List Pass) (frames : ℕ → Frame) : Type 0 where
   pub living : (lane : ℕ) (n : Name) → has (frames lane).held n ≡ true → (i : ℕ) × LivesAt names lives i n
   pub closed : (lane : ℕ) → list_any (same_pass (Lane lane)) opened ≡ false → (frames lane).held ≡ []
   pub paid : (lane : ℕ) → (frames lane).owed ≡ None
+  pub whole : (lane : ℕ) → (frames lane).broken ≡ []
 
 -- ---- marks
 

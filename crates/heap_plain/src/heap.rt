@@ -8,6 +8,7 @@ use crate::frames::count_open;
 use crate::life::Life;
 use crate::listing::list_units;
 use crate::marking::{is_done, keep_roots, may_end, may_start, named, starts, stop_of};
+use crate::parting::loosen;
 use crate::purging::{ask_at, begin_at, finish_at, release, turned};
 use crate::rooting::{must_mark, store};
 use crate::scanning::shade_unit;
@@ -17,8 +18,8 @@ use crate::sweeping::{find_removed, remove_white};
 use std::alloc::{AllocError, Global};
 use std::marker::{Model, PhantomData};
 use world_model::{
-    Begin, ClassId, Commit, CreateErr, Diary, Engine, Hooks, Kind, Marked, Name, Pass, Phase,
-    Purged, Ready, Ref, Shape, SweepStop, Swept,
+    Begin, ClassId, Commit, CreateErr, Diary, DissolveErr, Engine, Hooks, Kind, Marked, Name, Pass,
+    Phase, Purged, Ready, Ref, Shape, SweepStop, Swept,
 };
 
 /// The kind at an index that was never used.
@@ -34,8 +35,8 @@ const NO_KIND: Kind = Kind {
 /// All memory is taken by `new`: for each index of the shape its name, the first index and the
 /// size of its unit, the index of the next member, its kind, a row of reference cells and one of plain
 /// cells, whether it lives, its root bit, its mark bit, the number of its polls, the number of members
-/// that its unit waits for, a place of the worklist, one of the stack of free indexes and one of the
-/// queue of destruction.
+/// that its unit waits for, a place of the worklist, one of the stack of free indexes, one of the
+/// queue of destruction, and whether it is garbage.
 /// Opening and closing a frame, setting a root, and reading and writing a cell cost a few steps; making
 /// a unit as many as it has cells; a slice of marking as many as the objects that it scans have
 /// reference cells; a step of destruction as many as it has objects; the rest looks at all items.
@@ -88,6 +89,8 @@ pub struct PlainHeap<S: Shape> {
     waiting: Vec<u32>,
     /// The unit that is to be released, by the index of its first member.
     done: Option<u32>,
+    /// At the index of each object that lives whether it is marked as garbage.
+    garbage: Vec<bool>,
     diary: Diary,
     shape: PhantomData<S>,
 }
@@ -130,6 +133,7 @@ impl<S: Shape> Model for PlainHeap<S> {
       polls = h.polls.items;
       waiting = h.waiting.items;
       done = h.done;
+      garbage = h.garbage.items;
     }) h.diary };
 }
 
@@ -172,6 +176,7 @@ impl<S: Shape> PlainHeap<S> {
             polls: filled(alloc, items, 0)?,
             waiting: filled(alloc, items, 0)?,
             done: None,
+            garbage: filled(alloc, items, false)?,
             diary: Diary::new(alloc)?,
             shape: PhantomData,
         })
@@ -219,6 +224,7 @@ impl<S: Shape> Engine<S> for PlainHeap<S> {
         fill_rows(&mut self.plains, &self.free, top, asked, slots, 0);
         fill_popped(&mut self.lives, &self.free, top, asked, Life::Live);
         link(&mut self.next, &self.free, top, asked);
+        fill_popped(&mut self.garbage, &self.free, top, asked, false);
         self.sizes[head as usize] = asked as u32;
         self.marked[head as usize] = true;
         self.spare[lane as usize] = spare - asked as u32;
@@ -286,6 +292,48 @@ impl<S: Shape> Engine<S> for PlainHeap<S> {
             return store(&mut self.roots, index, lane, at.name, on, &mut self.diary);
         }
         store(&mut self.roots, index, lane, at.name, on, &mut self.diary)
+    }
+
+    fn dissolve(&mut self, lane: u32, at: Ref) -> Result<u32, DissolveErr> {
+        match self.phase {
+            Phase::Marking => {
+                self.diary.no_dissolve(Pass::Lane(lane), at.name);
+                return Err(DissolveErr::Marking);
+            }
+            _ => {}
+        }
+        let head = self.firsts[at.index as usize];
+        let count = self.sizes[head as usize];
+        let mut left = count;
+        while left > 1 {
+            left -= 1;
+            loosen(
+                &self.names,
+                &self.next,
+                head,
+                left,
+                &mut self.firsts,
+                &mut self.sizes,
+                lane,
+                &mut self.diary,
+            );
+        }
+        self.diary.dissolve(Pass::Lane(lane), at.name, count);
+        Ok(count)
+    }
+
+    fn mark_garbage(&mut self, lane: u32, at: Ref) -> bool {
+        let index = at.index as usize;
+        let old = self.garbage[index];
+        self.garbage[index] = true;
+        self.diary.mark_garbage(Pass::Lane(lane), at.name, old);
+        old
+    }
+
+    fn is_valid(&mut self, lane: u32, at: Ref) -> bool {
+        let valid = !self.garbage[at.index as usize];
+        self.diary.is_valid(Pass::Lane(lane), at.name, valid);
+        valid
     }
 
     fn mark(&mut self, marker: u32, budget: u32) -> Marked {

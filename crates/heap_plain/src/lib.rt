@@ -11,6 +11,7 @@ mod heap;
 mod life;
 mod listing;
 mod marking;
+mod parting;
 mod purging;
 mod rooting;
 mod scanning;

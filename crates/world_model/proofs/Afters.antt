@@ -7,14 +7,14 @@ use Rattle.world_model.specs.Types.act
 use Rattle.world_model.specs.Types.begin
 use Rattle.world_model.specs.Types.commit
 use Rattle.world_model.specs.Sizes.{Sizes}
-use Rattle.world_model.specs.NameLists.{same_name, has, members, names_from}
+use Rattle.world_model.specs.NameLists.{same_name, has, members, ends_with, but_last, parted, names_from}
 use Rattle.world_model.specs.World.{World, Removal, Begun, Finished, unit_of, in_world}
 use Rattle.world_model.specs.Reach.{graph, IsUnit}
 use Rattle.world_model.specs.State.{State, is_marked, white_units}
-use Rattle.world_model.specs.Next.{next_world, at_stage, polled}
+use Rattle.world_model.specs.Next.{next_world, with_loose, at_stage, polled}
 use Rattle.world_model.specs.Histories.{MayBy, state_of, after}
-use Rattle.world_model.specs.Follows.{is_done, is_removed, made_by, freed_by, UnitsAfter, RemovedAfter}
-use Rattle.world_model.proofs.ListFacts.{and_true, Among, among_append, among_left, among_right, among_filter, among_filter_test, filter_among, test_among, among_test, among_contains, contains_among}
+use Rattle.world_model.specs.Follows.{is_done, is_removed, made_by, freed_by, loosens, parts_by, StaysBy, UnitsAfter, RemovedAfter}
+use Rattle.world_model.proofs.ListFacts.{and_true, Contains-none, Among, among_append, among_left, among_right, among_filter, among_filter_test, filter_among, test_among, among_test, among_contains, contains_among}
 use Rattle.world_model.proofs.NameFacts.{found_unit, has_among, among_has}
 use Rattle.world_model.proofs.Joins.{histories_join}
 use Rattle.world_model.proofs.Units.{AreApart, units_apart}
@@ -24,24 +24,26 @@ use Rattle.world_model.proofs.Inductions.{one_more}
 use Rattle.world_model.proofs.Counts.{names_of, names_new, names_filter}
 use Rattle.world_model.proofs.Destroying.{named_kept, left_after}
 use Rattle.world_model.proofs.Sound.{IsSound, sound, commits_may}
-use Rattle.world_model.proofs.Barrier.{own_unit, member_lives}
+use Rattle.world_model.proofs.Barrier.{own_unit, member_lives, unit_lives, loosens_may}
+use Rattle.world_model.proofs.Loosening.{ends_own, among_parted, parted_among, which_part, whole_part}
 
 -- ---- units
 
 -- the units after an act
 abbrev UnitsNext : State → Pass → Act → List Name → Type 0
-UnitsNext s p a u = IsUnit (graph (next_world s.marks s.world p a)) u ↔ (((made_by p a ≢ []) × (u ≡ made_by p a)) ⊎ (IsUnit (graph s.world) u × (is_done a ≡ true → is_marked s.marks u ≡ true)))
+UnitsNext s p a u = IsUnit (graph (next_world s.marks s.world p a)) u ↔ (((made_by p a ≢ []) × (u ≡ made_by p a)) ⊎ Contains (parts_by s.world a) u ⊎ StaysBy s a u)
 
--- where nothing is made or removed
-same_units : (units : List (List Name)) (u : List Name) (A : Type 0) → Contains units u ↔ ((◌≢◌ {A = List Name} [] [] × (u ≡ [])) ⊎ (Contains units u × (false ≡ true → A)))
-same_units units u A = (λ k. inr (k, λ e. absurd cc), now)
+-- where nothing is made, parted or removed
+same_units : (s : State) (a : Act) (u : List Name) → loosens a u ≡ false → is_done a ≡ false → Contains s.world.units u ↔ ((◌≢◌ {A = List Name} [] [] × (u ≡ [])) ⊎ Contains [] u ⊎ StaysBy s a u)
+same_units s a u whole other = (λ k. inr (inr (record { unit = k; whole = whole; marked = λ e. absurd (both_ways _ other e) })), now)
   where
-    now : (◌≢◌ {A = List Name} [] [] × (u ≡ [])) ⊎ (Contains units u × (false ≡ true → A)) → Contains units u
+    now : (◌≢◌ {A = List Name} [] [] × (u ≡ [])) ⊎ Contains [] u ⊎ StaysBy s a u → Contains s.world.units u
     now (inl is) = absurd (is.0 refl)
-    now (inr old) = old.0
+    now (inr (inl none)) = absurd (Contains-none u none)
+    now (inr (inr old)) = old.unit
 
-units_next : (z : Sizes) (s : State) (p : Pass) (a : Act) → MayBy z s p a → (u : List Name) → UnitsNext s p a u
-units_next z s (Lane lane) (act.Make kinds first) may u = (λ k. before (among_append s.world.units (new ∷ []) u (contains_among _ u k)), now)
+units_next : (z : Sizes) (s : State) (p : Pass) (a : Act) → MayBy z s p a → AreApart s.world.kinds s.world.units → (u : List Name) → UnitsNext s p a u
+units_next z s (Lane lane) (act.Make kinds first) may apart u = (λ k. before (among_append s.world.units (new ∷ []) u (contains_among _ u k)), now)
   where
     new : List Name
     new = names_from lane first kinds
@@ -50,32 +52,61 @@ units_next z s (Lane lane) (act.Make kinds first) may u = (λ k. before (among_a
     some [] less = absurd (omega arith)
     some (k ∷ kinds) less = λ e. cc
 
-    before : Among s.world.units u ⊎ ((new ≡ u) ⊎ ⊥) → ((new ≢ []) × (u ≡ new)) ⊎ (IsUnit (graph s.world) u × (false ≡ true → is_marked s.marks u ≡ true))
-    before (inl k) = inr (among_contains _ u k, λ e. absurd cc)
+    before : Among s.world.units u ⊎ ((new ≡ u) ⊎ ⊥) → ((new ≢ []) × (u ≡ new)) ⊎ Contains [] u ⊎ StaysBy s (act.Make kinds first) u
+    before (inl k) = inr (inr (record { unit = among_contains _ u k; whole = refl; marked = λ e. absurd cc }))
     before (inr (inl e)) = inl (some kinds may.may.some, sym e)
     before (inr (inr e)) = absurd e
 
-    now : ((new ≢ []) × (u ≡ new)) ⊎ (IsUnit (graph s.world) u × (false ≡ true → is_marked s.marks u ≡ true)) → Contains (s.world.units ++ new ∷ []) u
+    now : ((new ≢ []) × (u ≡ new)) ⊎ Contains [] u ⊎ StaysBy s (act.Make kinds first) u → Contains (s.world.units ++ new ∷ []) u
     now (inl is) = among_contains _ u (among_right s.world.units (new ∷ []) u (inl (sym is.1)))
-    now (inr old) = among_contains _ u (among_left s.world.units (new ∷ []) u (contains_among _ u old.0))
-units_next z s (Marker marker) (act.Make kinds first) may u = absurd may.may
-units_next z s Collector (act.Make kinds first) may u = absurd may.may
-units_next z s p (act.CommitGc commit.Done) may u = (
-  λ k. let left = contains_among _ u k in inr (among_contains _ u (among_filter (is_marked s.marks) s.world.units u left), λ e. among_filter_test (is_marked s.marks) s.world.units u left),
+    now (inr (inl none)) = absurd (Contains-none u none)
+    now (inr (inr old)) = among_contains _ u (among_left s.world.units (new ∷ []) u (contains_among _ u old.unit))
+units_next z s (Marker marker) (act.Make kinds first) may apart u = absurd may.may
+units_next z s Collector (act.Make kinds first) may apart u = absurd may.may
+units_next z s p (act.CommitGc commit.Done) may apart u = (
+  λ k. let left = contains_among _ u k in inr (inr (record {
+    unit = among_contains _ u (among_filter (is_marked s.marks) s.world.units u left);
+    whole = refl;
+    marked = λ e. among_filter_test (is_marked s.marks) s.world.units u left;
+  })),
   now,
 )
   where
-    now : (◌≢◌ {A = List Name} [] [] × (u ≡ [])) ⊎ (IsUnit (graph s.world) u × (true ≡ true → is_marked s.marks u ≡ true)) → Contains (filter (is_marked s.marks) s.world.units) u
+    now : (◌≢◌ {A = List Name} [] [] × (u ≡ [])) ⊎ Contains [] u ⊎ StaysBy s (act.CommitGc commit.Done) u → Contains (filter (is_marked s.marks) s.world.units) u
     now (inl is) = absurd (is.0 refl)
-    now (inr old) = among_contains _ u (filter_among (is_marked s.marks) s.world.units u (contains_among _ u old.0) (old.1 refl))
-units_next z s p (act.BeginGc begin.Started) may u = same_units s.world.units u (is_marked s.marks u ≡ true)
-units_next z s p _ may u = same_units s.world.units u (is_marked s.marks u ≡ true)
+    now (inr (inl none)) = absurd (Contains-none u none)
+    now (inr (inr old)) = among_contains _ u (filter_among (is_marked s.marks) s.world.units u (contains_among _ u old.unit) (old.marked refl))
+units_next z s p (act.Loose of) may apart u = (λ k. before (among_parted of s.world.units u (contains_among _ u k)), now)
+  where
+    unit : List Name
+    unit = unit_of s.world of
+
+    -- the unit that is parted is that of the member
+    own : (v : List Name) → Among s.world.units v → ends_with of v ≡ true → unit ≡ v
+    own v k e = own_unit s.world apart v of k (ends_own of v e)
+
+    before : (v : List Name) × Among s.world.units v × Among (parted of v) u → (◌≢◌ {A = List Name} [] [] × (u ≡ [])) ⊎ Contains (parted of unit) u ⊎ StaysBy s (act.Loose of) u
+    before (v, k, part) = go (which_part of v u part)
+      where
+        go : ((ends_with of v ≡ true) × ((but_last v ≡ u) ⊎ (of ∷ [] ≡ u))) ⊎ ((ends_with of v ≡ false) × (v ≡ u)) → (◌≢◌ {A = List Name} [] [] × (u ≡ [])) ⊎ Contains (parted of unit) u ⊎ StaysBy s (act.Loose of) u
+        go (inl (e, which)) = inr (inl (among_contains _ u (subst (λ (x : List Name). Among (parted of x) u) (sym (own v k e)) part)))
+        go (inr (e, same)) = inr (inr (record { unit = among_contains _ u (subst (λ (x : List Name). Among s.world.units x) same k); whole = ap (ends_with of) (sym same) ∙ e; marked = λ e. absurd cc }))
+
+    now : (◌≢◌ {A = List Name} [] [] × (u ≡ [])) ⊎ Contains (parted of unit) u ⊎ StaysBy s (act.Loose of) u → Contains (with_loose s.world of).units u
+    now (inl is) = absurd (is.0 refl)
+    now (inr (inl part)) = among_contains _ u (parted_among of s.world.units unit u (found_unit s.world.units of lives).0 (contains_among _ u part))
+      where
+        lives : in_world s.world of ≡ true
+        lives = unit_lives s.world of of (ends_own of unit (loosens_may z s p of may).2.last)
+    now (inr (inr old)) = among_contains _ u (parted_among of s.world.units u u (contains_among _ u old.unit) (whole_part of u old.whole))
+units_next z s p (act.BeginGc begin.Started) may apart u = same_units s (act.BeginGc begin.Started) u refl refl
+units_next z s p a may apart u = same_units s a u refl refl
 
 pub units_after_holds : UnitsAfter
 units_after_holds z history e legal u =
-    let may = ((histories_join.one_more z history e).0 legal).1 in
-    subst (λ (s : State). IsUnit (graph s.world) u ↔ (((made_by e.pass e.act ≢ []) × (u ≡ made_by e.pass e.act)) ⊎ (IsUnit (graph (after history)) u × (is_done e.act ≡ true → is_marked (state_of history).marks u ≡ true))))
-    (sym (one_more history e)) (units_next z (state_of history) e.pass e.act may u)
+    let parts = (histories_join.one_more z history e).0 legal in
+    subst (λ (s : State). IsUnit (graph s.world) u ↔ (((made_by e.pass e.act ≢ []) × (u ≡ made_by e.pass e.act)) ⊎ Contains (parts_by (after history) e.act) u ⊎ StaysBy (state_of history) e.act u))
+    (sym (one_more history e)) (units_next z (state_of history) e.pass e.act parts.1 (units_apart z history parts.0) u)
 
 -- ---- removed objects
 

@@ -1,5 +1,5 @@
 -- In every legal history what is held, and what is named, lives; and while a collection marks, a black unit names marked units alone.
-use Rattle.std.proofs.Common.{◌≡◌, ℕ, refl, sym, subst, ap, ◌∙◌, inl, inr, Bool, cond, true, false, not, ◌||◌, ◌&&◌, ◌==◌, if◌then◌else◌, List, [], ◌∷◌, ◌++◌, filter, flat_map, Option, Some, None, ◌⊎◌, IfSome, option_and_then}
+use Rattle.std.proofs.Common.{◌≡◌, ℕ, refl, sym, subst, ap, ◌∙◌, inl, inr, Bool, cond, true, false, not, ◌||◌, ◌&&◌, ◌==◌, if◌then◌else◌, List, [], ◌∷◌, ◌++◌, filter, flat_map, Option, Some, None, unwrap_or, ◌⊎◌, IfSome, option_and_then}
 use Rattle.std.specs.List.{list_any, find}
 use Rattle.std.specs.Option.{option_to_list}
 use Rattle.std.proofs.lemmas.Bool.{both_ways, false_from_ne_true, true_from_ne_false, or_left, eqb-true, and_from}
@@ -10,12 +10,12 @@ use Rattle.world_model.specs.Types.begin
 use Rattle.world_model.specs.Types.commit
 use Rattle.world_model.specs.Types.sweep
 use Rattle.world_model.specs.Sizes.{Sizes}
-use Rattle.world_model.specs.NameLists.{same_name, same_weak, has, names_from, set_at, set_name}
-use Rattle.world_model.specs.World.{World, Pair, unit_of, in_world, is_open, resolved}
+use Rattle.world_model.specs.NameLists.{same_name, same_weak, has, members, names_from, set_at, set_name}
+use Rattle.world_model.specs.World.{World, Pair, unit_of, in_world, is_given, is_open, resolved}
 use Rattle.world_model.specs.Reach.{graph, IsRootUnit}
 use Rattle.world_model.specs.State.{State, Frame, beginning, is_marked, is_grey, grey_in, grey_units}
-use Rattle.world_model.specs.Next.{next_world, next_frame, next_by, next, settled, given, lane_of}
-use Rattle.world_model.specs.LaneSteps.{IsWhite, WritesRef, SetsStrong, SetsRoot}
+use Rattle.world_model.specs.Next.{next_world, with_loose, next_frame, next_by, next, settled, given, lane_of}
+use Rattle.world_model.specs.LaneSteps.{IsWhite, WritesRef, SetsStrong, SetsRoot, Loosens}
 use Rattle.world_model.specs.MarkerSteps.{Scans}
 use Rattle.world_model.specs.CollectorSteps.{Commits}
 use Rattle.world_model.specs.Histories.{MayBy, May, Legal, state_of}
@@ -23,6 +23,8 @@ use Rattle.world_model.specs.Follows.{IsMade, is_done, made_by}
 use Rattle.world_model.proofs.ListFacts.{and_true, or_true, or_right, any_filter, Among, among_append, among_filter, among_filter_test, filter_among, test_among, among_test, among_contains}
 use Rattle.world_model.proofs.NameFacts.{same_name_true, found_unit, any_more, has_among, among_has}
 use Rattle.world_model.proofs.Reaches.{reach_by_walks_holds}
+use Rattle.world_model.proofs.Rounds.{has-members}
+use Rattle.world_model.proofs.Loosening.{lives_loose}
 use Rattle.world_model.proofs.Units.{AreApart, units_apart}
 use Rattle.world_model.proofs.Quiet.{not_open, still_open, other_lane, no_lane, no_collector}
 use Rattle.world_model.proofs.Inductions.{by_states}
@@ -35,6 +37,7 @@ pub living_stays : (s : State) (p : Pass) (a : Act) (n : Name) → is_done a ≡
 living_stays s p (act.Make kinds first) n other h = list_any-append (λ u. has u n) s.world.units _ ∙ or_left (in_world s.world n) _ h
 living_stays s p (act.BeginGc begin.Started) n other h = h
 living_stays s p (act.CommitGc commit.Done) n other h = absurd cc
+living_stays s p (act.Loose of) n other h = lives_loose s.world of n ∙ h
 living_stays s p _ n other h = h
 
 -- what lives lived, or is made now
@@ -49,6 +52,7 @@ lived s p (act.Make kinds first) n h = go (or_true (in_world s.world n) _ (sym (
     go (inl e) = inl e
     go (inr e) = inr (or_none _ e)
 lived s p (act.BeginGc begin.Started) n h = inl h
+lived s p (act.Loose of) n h = inl (sym (lives_loose s.world of n) ∙ h)
 lived s p (act.CommitGc commit.Done) n h = inl (any_filter (λ u. has u n) (is_marked s.marks) s.world.units h)
 lived s p _ n h = inl h
 
@@ -85,7 +89,7 @@ grey kept scanned u = list_any (has kept) u && not (list_any (has scanned) u)
 pub record IsTricolour (phase : Phase) (units : List (List Name)) (cell : Name → ℕ → Option Name) (kept fresh scanned : List Name) : Type 0 where
   pub black : phase ≡ Marking → (u v : List Name) (from : Name) (slot : ℕ) (to : Name) → Among units u → Among units v → has u from ≡ true → has v to ≡ true → cell from slot ≡ Some to
       → marked kept fresh u ≡ true → grey kept scanned u ≡ false → marked kept fresh v ≡ true
-  pub scanned_kept : (u : List Name) → Among units u → list_any (has scanned) u ≡ true → list_any (has kept) u ≡ true
+  pub scanned_kept : phase ≡ Marking → (u : List Name) → Among units u → list_any (has scanned) u ≡ true → list_any (has kept) u ≡ true
 
 -- what a note names was made
 pub record IsNoted (w : World) (kept fresh scanned : List Name) : Type 0 where
@@ -143,6 +147,19 @@ own_unit w apart u n k h =
     let unit = found_unit w.units n (member_lives w u n k h) in
     apart.apart (unit_of w n) u n unit.0 k unit.1 h
 
+-- a name has a unit only while it lives
+pub unit_lives : (w : World) (n m : Name) → has (unit_of w n) m ≡ true → in_world w n ≡ true
+unit_lives w n m h = go w.units h
+  where
+    go : (units : List (List Name)) → has (unwrap_or (find (λ u. has u n) units) []) m ≡ true → list_any (λ u. has u n) units ≡ true
+    go [] h = absurd cc
+    go (u ∷ units) h = one (has u n) (go units) h
+      where
+        one : (b : Bool) → (has (unwrap_or (find (λ v. has v n) units) []) m ≡ true → list_any (λ v. has v n) units ≡ true)
+            → has (unwrap_or (cond b (Some u) (find (λ v. has v n) units)) []) m ≡ true → (b || list_any (λ v. has v n) units) ≡ true
+        one true rest h = refl
+        one false rest h = rest h
+
 -- one more object is noted
 noted_more : (of : Name) (noted : List Name) (n : Name) → has noted n ≡ true → has (of ∷ noted) n ≡ true
 noted_more of noted n h = or_right (same_name n of) _ h
@@ -160,11 +177,11 @@ kept_marked kept fresh u h = any_more_pass (has kept) (λ n. has kept n || has f
 
 -- a white unit is kept
 module _ (units : List (List Name)) (cell : Name → ℕ → Option Name) (phase : Phase) (kept fresh scanned : List Name) (h : IsTricolour phase units cell kept fresh scanned) (of : Name) where
-  was_marked : (u : List Name) → Among units u → (s : Bool) → list_any (has scanned) u ≡ s → (k : Bool) → list_any (has (of ∷ kept)) u ≡ k
+  was_marked : phase ≡ Marking → (u : List Name) → Among units u → (s : Bool) → list_any (has scanned) u ≡ s → (k : Bool) → list_any (has (of ∷ kept)) u ≡ k
       → marked (of ∷ kept) fresh u ≡ true → (k && not s) ≡ false → marked kept fresh u ≡ true
-  was_marked u among true e k f m not_grey = kept_marked kept fresh u (h.scanned_kept u among e)
-  was_marked u among false e true f m not_grey = absurd cc
-  was_marked u among false e false f m not_grey =
+  was_marked marking u among true e k f m not_grey = kept_marked kept fresh u (h.scanned_kept marking u among e)
+  was_marked marking u among false e true f m not_grey = absurd cc
+  was_marked marking u among false e false f m not_grey =
       let r = test_among (λ n. has (of ∷ kept) n || has fresh n) u m in
       among_test (λ n. has kept n || has fresh n) u r.0 r.1 (pick r.0 r.1 (or_true (has (of ∷ kept) r.0) (has fresh r.0) r.2))
     where
@@ -176,10 +193,10 @@ module _ (units : List (List Name)) (cell : Name → ℕ → Option Name) (phase
   kept_tricolour = record {
     black = λ marking u v from slot to k l a b e m not_grey.
         marked_more kept (of ∷ kept) fresh fresh v (λ n. noted_more of kept n) (λ n e. e)
-        (h.black marking u v from slot to k l a b e (was_marked u k (list_any (has scanned) u) refl (list_any (has (of ∷ kept)) u) refl m not_grey)
+        (h.black marking u v from slot to k l a b e (was_marked marking u k (list_any (has scanned) u) refl (list_any (has (of ∷ kept)) u) refl m not_grey)
         (false_from_ne_true _ (λ g. let parts = and_true (list_any (has kept) u) (not (list_any (has scanned) u)) g in
         both_ways _ not_grey (and_from _ _ (any_more_pass (has kept) (has (of ∷ kept)) u (noted_more of kept) parts.0) parts.1))));
-    scanned_kept = λ u k is. any_more_pass (has kept) (has (of ∷ kept)) u (noted_more of kept) (h.scanned_kept u k is);
+    scanned_kept = λ marking u k is. any_more_pass (has kept) (has (of ∷ kept)) u (noted_more of kept) (h.scanned_kept marking u k is);
   }
 
 -- a grey unit is scanned
@@ -187,16 +204,16 @@ scanned_tricolour : (s : State) (of : Name) → AreApart s.world.kinds s.world.u
     → IsTricolour s.world.phase s.world.units s.world.cell s.marks.kept s.marks.fresh (of ∷ s.marks.scanned)
 scanned_tricolour s of apart may h = record {
   black = λ marking u v from slot to k l a b e m not_grey. go marking u v from slot to k l a b e m (list_any (has s.marks.kept) u) refl (list_any (has s.marks.scanned) u) refl not_grey;
-  scanned_kept = λ u k is. kept u k (any_more of s.marks.scanned u is);
+  scanned_kept = λ marking u k is. kept marking u k (any_more of s.marks.scanned u is);
 }
   where
     -- the unit of the scanned object
     own : (u : List Name) → Among s.world.units u → has u of ≡ true → unit_of s.world of ≡ u
     own u k e = own_unit s.world apart u of k e
 
-    kept : (u : List Name) → Among s.world.units u → (has u of ≡ true) ⊎ (list_any (has s.marks.scanned) u ≡ true) → list_any (has s.marks.kept) u ≡ true
-    kept u k (inl e) = subst (λ (v : List Name). list_any (has s.marks.kept) v ≡ true) (own u k e) (and_true _ _ may.grey).0
-    kept u k (inr e) = h.scanned_kept u k e
+    kept : s.world.phase ≡ Marking → (u : List Name) → Among s.world.units u → (has u of ≡ true) ⊎ (list_any (has s.marks.scanned) u ≡ true) → list_any (has s.marks.kept) u ≡ true
+    kept marking u k (inl e) = subst (λ (v : List Name). list_any (has s.marks.kept) v ≡ true) (own u k e) (and_true _ _ may.grey).0
+    kept marking u k (inr e) = h.scanned_kept marking u k e
 
     go : s.world.phase ≡ Marking → (u v : List Name) (from : Name) (slot : ℕ) (to : Name) → Among s.world.units u → Among s.world.units v → has u from ≡ true → has v to ≡ true → s.world.cell from slot ≡ Some to
         → is_marked s.marks u ≡ true → (a : Bool) → list_any (has s.marks.kept) u ≡ a → (b : Bool) → list_any (has s.marks.scanned) u ≡ b
@@ -219,7 +236,7 @@ made_tricolour : (z : Sizes) (s : State) (p : Pass) (kinds : List Kind) (first :
     → IsTricolour s.world.phase (s.world.units ++ names_from (lane_of p) first kinds ∷ []) s.world.cell s.marks.kept (names_from (lane_of p) first kinds ++ s.marks.fresh) s.marks.scanned
 made_tricolour z s p kinds first may known named noted h = record {
   black = λ marking u v from slot to k l a b e m not_grey. black marking u v from slot to (among_append s.world.units (new ∷ []) u k) (among_append s.world.units (new ∷ []) v l) a b e m not_grey;
-  scanned_kept = λ u k is. scanned_kept u (among_append s.world.units (new ∷ []) u k) is;
+  scanned_kept = λ marking u k is. scanned_kept marking u (among_append s.world.units (new ∷ []) u k) is;
 }
   where
     new : List Name
@@ -260,12 +277,12 @@ made_tricolour z s p kinds first may known named noted h = record {
     black marking u v from slot to (inl k) (inl l) a b c m g =
         marked_more s.marks.kept s.marks.kept s.marks.fresh (new ++ s.marks.fresh) v (λ n e. e) fresh_more (h.black marking u v from slot to k l a b c (marked_before u k m) g)
 
-    scanned_kept : (u : List Name) → Among s.world.units u ⊎ ((new ≡ u) ⊎ ⊥) → list_any (has s.marks.scanned) u ≡ true → list_any (has s.marks.kept) u ≡ true
-    scanned_kept u (inl k) is = h.scanned_kept u k is
-    scanned_kept u (inr (inl e)) is =
+    scanned_kept : s.world.phase ≡ Marking → (u : List Name) → Among s.world.units u ⊎ ((new ≡ u) ⊎ ⊥) → list_any (has s.marks.scanned) u ≡ true → list_any (has s.marks.kept) u ≡ true
+    scanned_kept marking u (inl k) is = h.scanned_kept marking u k is
+    scanned_kept marking u (inr (inl e)) is =
         let r = test_among (has s.marks.scanned) u is in
         absurd (unmade r.0 (subst (λ (x : List Name). has x r.0 ≡ true) (sym e) (among_has u r.0 r.1)) (noted.scanned_made r.0 r.2))
-    scanned_kept u (inr (inr e)) is = absurd e
+    scanned_kept marking u (inr (inr e)) is = absurd e
 
 -- a reference is stored: its target is marked
 stored_tricolour : (s : State) (at : Name) (slot : ℕ) (to : Option Name) → AreApart s.world.kinds s.world.units → (s.world.phase ≡ Marking → (n : Name) → to ≡ Some n → is_marked s.marks (unit_of s.world n) ≡ true)
@@ -284,7 +301,7 @@ stored_tricolour s at slot to apart shaded h = record {
 
 other_phase : (phase phase' : Phase) (units : List (List Name)) (cell : Name → ℕ → Option Name) (kept fresh scanned : List Name) → (phase' ≡ Marking → phase ≡ Marking)
     → IsTricolour phase units cell kept fresh scanned → IsTricolour phase' units cell kept fresh scanned
-other_phase phase phase' units cell kept fresh scanned back h = record { black = λ marking. h.black (back marking); scanned_kept = h.scanned_kept }
+other_phase phase phase' units cell kept fresh scanned back h = record { black = λ marking. h.black (back marking); scanned_kept = λ marking. h.scanned_kept (back marking) }
 
 pub settled_marking : (phase : Phase) (stop : SweepStop) → settled phase stop ≡ Marking → phase ≡ Marking
 settled_marking phase sweep.More e = e
@@ -317,6 +334,11 @@ keeps z s (Lane lane) of may = may.may.white
 keeps z s (Marker marker) of may = may.may.white
 keeps z s Collector of may = may.may.white
 
+pub loosens_may : (z : Sizes) (s : State) (p : Pass) (of : Name) → MayBy z s p (act.Loose of) → (lane : ℕ) × (p ≡ Lane lane) × Loosens s lane of
+loosens_may z s (Lane lane) of may = (lane, refl, may.may)
+loosens_may z s (Marker marker) of may = absurd may.may
+loosens_may z s Collector of may = absurd may.may
+
 pub scans : (z : Sizes) (s : State) (p : Pass) (of : Name) → MayBy z s p (act.Scanned of) → Scans s of
 scans z s (Lane lane) of may = absurd may.may
 scans z s (Marker marker) of may = may.may
@@ -330,10 +352,11 @@ next_tricolour z s p (act.Scanned of) may apart known h = scanned_tricolour s of
 next_tricolour z s p (act.Make kinds first) may apart known h = made_tricolour z s p kinds first may known h.named h.noted h.tricolour
 next_tricolour z s p (act.WriteRef at slot to old) may apart known h =
     stored_tricolour s at slot to apart (λ marking n e. of_some (λ n. is_marked s.marks (unit_of s.world n) ≡ true) to ((writes z s p at slot to old may).2.shaded marking) n e) h.tricolour
-next_tricolour z s p (act.BeginGc begin.Started) may apart known h = record { black = λ marking u v from slot to k l a b e m. absurd (none_marked u m); scanned_kept = λ u k is. is }
-next_tricolour z s p (act.CommitGc commit.Done) may apart known h = record { black = λ marking. absurd cc; scanned_kept = λ u k is. h.tricolour.scanned_kept u (among_filter (is_marked s.marks) s.world.units u k) is }
+next_tricolour z s p (act.BeginGc begin.Started) may apart known h = record { black = λ marking u v from slot to k l a b e m. absurd (none_marked u m); scanned_kept = λ marking u k is. is }
+next_tricolour z s p (act.CommitGc commit.Done) may apart known h = record { black = λ marking. absurd cc; scanned_kept = λ marking. absurd cc }
 next_tricolour z s p (act.Sweep budget reply names) may apart known h =
     other_phase s.world.phase (settled s.world.phase reply.stop) s.world.units s.world.cell s.marks.kept s.marks.fresh s.marks.scanned (settled_marking s.world.phase reply.stop) h.tricolour
+next_tricolour z s p (act.Loose of) may apart known h = record { black = λ marking. absurd ((loosens_may z s p of may).2.unmarked marking); scanned_kept = λ marking. absurd ((loosens_may z s p of may).2.unmarked marking) }
 next_tricolour z s p _ may apart known h = h.tricolour
 
 next_noted : (z : Sizes) (s : State) (p : Pass) (a : Act) → MayBy z s p a → IsSound s → Noted s → Noted (next_by s (next_world s.marks s.world p a) p a)
@@ -356,6 +379,11 @@ next_noted z s p (act.Make kinds first) may known h = record {
     fresh : (n : Name) → (has (names_from (lane_of p) first kinds) n ≡ true) ⊎ (has s.marks.fresh n ≡ true) → IsMade (next_world s.marks s.world p (act.Make kinds first)) n
     fresh n (inl e) = (is_new z s p (act.Make kinds first) n may e).1
     fresh n (inr e) = made_stays s p (act.Make kinds first) n (h.fresh_made n e)
+next_noted z s p (act.Loose of) may known h = record { kept_made = h.kept_made; fresh_made = λ n e. fresh n (or_true _ _ (sym (list_any-append (same_name n) (members (with_loose s.world of).units) s.marks.fresh) ∙ e)); scanned_made = h.scanned_made }
+  where
+    fresh : (n : Name) → (has (members (with_loose s.world of).units) n ≡ true) ⊎ (has s.marks.fresh n ≡ true) → IsMade s.world n
+    fresh n (inl e) = made_living s.world known.once n (sym (lives_loose s.world of n) ∙ sym (has-members (with_loose s.world of).units n) ∙ e)
+    fresh n (inr e) = h.fresh_made n e
 next_noted z s p (act.BeginGc begin.Started) may known h = record { kept_made = λ n e. absurd cc; fresh_made = λ n e. absurd cc; scanned_made = λ n e. absurd cc }
 next_noted z s p (act.CommitGc commit.Done) may known h = record { kept_made = h.kept_made; fresh_made = h.fresh_made; scanned_made = h.scanned_made }
 next_noted z s p _ may known h = record { kept_made = h.kept_made; fresh_made = h.fresh_made; scanned_made = h.scanned_made }
@@ -440,6 +468,12 @@ next_named z s p (act.SetStrong number to old) may known h = record {
       (set_at_here (s.world.strong (lane_of p)) number to (λ k c. c ≡ Some n → in_world s.world n ≡ true) (λ e. of_some (λ n. in_world s.world n ≡ true) to (held_live s h.holding (sets z s p number to old may).0 to (sets z s p number to old may).2.held) n e) (λ k e. h.named.strong (lane_of p) k n e))
       (λ l k e. h.named.strong l k n e) l k e;
 }
+next_named z s p (act.Loose of) may known h = record {
+  cells = λ at slot n lives e. living_stays s p (act.Loose of) n refl (h.named.cells at slot n (sym (lives_loose s.world of at) ∙ lives) e);
+  blank = h.named.blank;
+  rooted = λ n is. living_stays s p (act.Loose of) n refl (h.named.rooted n is);
+  strong = λ lane number n e. living_stays s p (act.Loose of) n refl (h.named.strong lane number n e);
+}
 next_named z s p (act.CommitGc commit.Done) may known h = committed_named z s p (commits_may z s p may) h
 next_named z s p (act.BeginGc begin.Started) may known h = record { cells = h.named.cells; blank = h.named.blank; rooted = h.named.rooted; strong = h.named.strong }
 next_named z s p _ may known h = record { cells = h.named.cells; blank = h.named.blank; rooted = h.named.rooted; strong = h.named.strong }
@@ -454,13 +488,13 @@ perhaps (Some n) m (inr k) = absurd k
 pub resolved_lives : (w : World) (pair : Weak) (n : Name) → resolved w pair ≡ Some n → in_world w n ≡ true
 resolved_lives w pair n e = go (find (λ p. same_weak pair p.weak) w.pairs) e
   where
-    if_lives : (p : Pair) (b : Bool) → in_world w p.name ≡ b → (if b then Some p.name else None) ≡ Some n → in_world w n ≡ true
-    if_lives p true lives e = let same : p.name ≡ n = cc in subst (λ (m : Name). in_world w m ≡ true) same lives
-    if_lives p false lives e = absurd cc
+    if_given : (p : Pair) (b : Bool) → is_given w p.name ≡ b → (if b then Some p.name else None) ≡ Some n → in_world w n ≡ true
+    if_given p true given e = let same : p.name ≡ n = cc in subst (λ (m : Name). in_world w m ≡ true) same (and_true _ _ given).0
+    if_given p false given e = absurd cc
 
-    go : (o : Option Pair) → option_and_then (λ p. if in_world w p.name then Some p.name else None) o ≡ Some n → in_world w n ≡ true
+    go : (o : Option Pair) → option_and_then (λ p. if is_given w p.name then Some p.name else None) o ≡ Some n → in_world w n ≡ true
     go None e = absurd cc
-    go (Some p) e = if_lives p (in_world w p.name) refl e
+    go (Some p) e = if_given p (is_given w p.name) refl e
 
 -- what an entry gives to its lane lives
 pub given_lives : (z : Sizes) (s : State) (lane : ℕ) (a : Act) → MayBy z s (Lane lane) a → IsNamed s.world → IsHolding s.world s.frames → (m : Name) → Among (given lane a) m
@@ -489,6 +523,7 @@ own_holding : (z : Sizes) (s : State) (lane : ℕ) (a : Act) → MayBy z s (Lane
 own_holding z s lane (act.FrameOpen phase) may named h n e = absurd cc
 own_holding z s lane act.FrameClose may named h n e = absurd cc
 own_holding z s lane (act.Kept of) may named h n e = (h.lives lane n e, h.opened lane n e)
+own_holding z s lane (act.Loose of) may named h n e = (living_stays s (Lane lane) (act.Loose of) n refl (h.lives lane n e), may.frame.opened)
 own_holding z s lane act.SliceOpen may named h n e = absurd may.may
 own_holding z s lane (act.Slice budget reply) may named h n e = absurd may.may
 own_holding z s lane (act.BeginGc reply) may named h n e = absurd may.may
@@ -499,11 +534,11 @@ own_holding z s lane a may named h n e = (go (or_true _ _ (sym (list_any-append 
     go (inl new) = all_members_live (next_world s.marks s.world (Lane lane) a) (given lane a) (given_lives z s lane a may named h) n new
     go (inr old) = living_stays s (Lane lane) a n refl (h.lives lane n old)
 
-by_no_lane : (z : Sizes) (s : State) (lane : ℕ) (a : Act) → MayBy z s (Lane lane) a → is_done a ≡ false
+pub by_no_lane : (z : Sizes) (s : State) (lane : ℕ) (a : Act) → MayBy z s (Lane lane) a → is_done a ≡ false
 by_no_lane z s lane (act.CommitGc reply) may = absurd may.may
 by_no_lane z s lane _ may = refl
 
-by_no_marker : (z : Sizes) (s : State) (marker : ℕ) (a : Act) → MayBy z s (Marker marker) a → is_done a ≡ false
+pub by_no_marker : (z : Sizes) (s : State) (marker : ℕ) (a : Act) → MayBy z s (Marker marker) a → is_done a ≡ false
 by_no_marker z s marker (act.CommitGc reply) may = absurd may.may
 by_no_marker z s marker _ may = refl
 
@@ -543,7 +578,7 @@ first_barred : IsBarred beginning
 first_barred = record {
   named = record { cells = λ at slot n lives. absurd cc; blank = λ at slot n e. absurd cc; rooted = λ n e. absurd cc; strong = λ lane number n e. absurd cc };
   holding = record { lives = λ lane n e. absurd cc; opened = λ lane n e. absurd cc };
-  tricolour = record { black = λ marking. absurd cc; scanned_kept = λ u k. absurd k };
+  tricolour = record { black = λ marking. absurd cc; scanned_kept = λ marking u k. absurd k };
   noted = record { kept_made = λ n e. absurd cc; fresh_made = λ n e. absurd cc; scanned_made = λ n e. absurd cc };
 }
 

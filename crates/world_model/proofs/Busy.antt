@@ -19,15 +19,15 @@ pub four_made_legal : Legal small four_made
 four_made_legal = (
   record { in_range = lit< tt; frame = refl; may = refl },
   (
-    record { in_range = lit< tt; frame = record { opened = refl; continues = tt }; may = record { some = lit≤ tt; few = lit≤ tt; lawful = refl; next = refl; names = lit≤ tt; room = lit≤ tt } },
+    record { in_range = lit< tt; frame = record { opened = refl; continues = tt; parts = tt }; may = record { some = lit≤ tt; few = lit≤ tt; lawful = refl; next = refl; names = lit≤ tt; room = lit≤ tt } },
     (
-      record { in_range = lit< tt; frame = record { opened = refl; continues = tt }; may = record { number = lit< tt; held = refl; was = refl; shaded = λ marking. absurd cc } },
+      record { in_range = lit< tt; frame = record { opened = refl; continues = tt; parts = tt }; may = record { number = lit< tt; held = refl; was = refl; shaded = λ marking. absurd cc } },
       (
-        record { in_range = lit< tt; frame = record { opened = refl; continues = tt }; may = record { some = lit≤ tt; few = lit≤ tt; lawful = refl; next = refl; names = lit≤ tt; room = lit≤ tt } },
+        record { in_range = lit< tt; frame = record { opened = refl; continues = tt; parts = tt }; may = record { some = lit≤ tt; few = lit≤ tt; lawful = refl; next = refl; names = lit≤ tt; room = lit≤ tt } },
         (
-          record { in_range = lit< tt; frame = record { opened = refl; continues = tt }; may = record { held = refl; pair = record { left = lit< tt; serial = refl; index = lit< tt } } },
+          record { in_range = lit< tt; frame = record { opened = refl; continues = tt; parts = tt }; may = record { held = refl; pair = record { left = lit< tt; serial = refl; index = lit< tt } } },
           (
-            record { in_range = lit< tt; frame = record { opened = refl; continues = tt }; may = record { some = lit≤ tt; few = lit≤ tt; lawful = refl; next = refl; names = lit≤ tt; room = lit≤ tt } },
+            record { in_range = lit< tt; frame = record { opened = refl; continues = tt; parts = tt }; may = record { some = lit≤ tt; few = lit≤ tt; lawful = refl; next = refl; names = lit≤ tt; room = lit≤ tt } },
             tt,
           ),
         ),
@@ -38,13 +38,13 @@ four_made_legal = (
 
 pub four_linked_legal : Legal small four_linked
 four_linked_legal = legal_join small beginning four_made (drop 6 four_linked) four_made_legal (
-  record { in_range = lit< tt; frame = record { opened = refl; continues = tt }; may = record { held = refl; pair = record { left = lit< tt; serial = refl; index = lit< tt } } },
+  record { in_range = lit< tt; frame = record { opened = refl; continues = tt; parts = tt }; may = record { held = refl; pair = record { left = lit< tt; serial = refl; index = lit< tt } } },
   (
-    record { in_range = lit< tt; frame = record { opened = refl; continues = tt }; may = record { place = record { held = refl; in_range = lit< tt }; held = refl; was = refl; shaded = λ marking. absurd cc } },
+    record { in_range = lit< tt; frame = record { opened = refl; continues = tt; parts = tt }; may = record { place = record { held = refl; in_range = lit< tt }; held = refl; was = refl; shaded = λ marking. absurd cc } },
     (
-      record { in_range = lit< tt; frame = record { opened = refl; continues = tt }; may = (record { held = refl; first = lit≤ tt; last = lit< tt }, refl) },
+      record { in_range = lit< tt; frame = record { opened = refl; continues = tt; parts = tt }; may = (record { held = refl; first = lit≤ tt; last = lit< tt }, refl) },
       (
-        record { in_range = lit< tt; frame = record { opened = refl; continues = tt }; may = tt },
+        record { in_range = lit< tt; frame = record { opened = refl; continues = tt; parts = tt }; may = tt },
         tt,
       ),
     ),
@@ -85,9 +85,9 @@ second_met_legal = legal_join small beginning slice_opened (drop 14 second_met) 
     (
       record { in_range = lit< tt; frame = refl; may = refl },
       (
-        record { in_range = lit< tt; frame = record { opened = refl; continues = tt }; may = (lit< tt, refl) },
+        record { in_range = lit< tt; frame = record { opened = refl; continues = tt; parts = tt }; may = (lit< tt, refl) },
         (
-          record { in_range = lit< tt; frame = record { opened = refl; continues = tt }; may = refl },
+          record { in_range = lit< tt; frame = record { opened = refl; continues = tt; parts = tt }; may = refl },
           tt,
         ),
       ),
@@ -97,7 +97,7 @@ second_met_legal = legal_join small beginning slice_opened (drop 14 second_met) 
 
 pub second_marked_legal : Legal small second_marked
 second_marked_legal = legal_join small beginning second_met (drop 19 second_marked) second_met_legal (
-  record { in_range = lit< tt; frame = record { opened = refl; continues = tt }; may = record { white = record { marking = refl; living = refl; unmarked = refl }; held = refl } },
+  record { in_range = lit< tt; frame = record { opened = refl; continues = tt; parts = tt }; may = record { white = record { marking = refl; living = refl; unmarked = refl }; held = refl } },
   tt,
 )
 
@@ -163,9 +163,9 @@ scans_second v unit r =
 
 pub cluster_removed_legal : Legal small cluster_removed
 cluster_removed_legal = legal_join small beginning second_marked (drop 20 cluster_removed) second_marked_legal (
-  record { in_range = lit< tt; frame = record { opened = refl; continues = refl }; may = record { place = record { held = refl; in_range = lit< tt }; held = refl; was = refl; shaded = λ marking. refl } },
+  record { in_range = lit< tt; frame = record { opened = refl; continues = refl; parts = tt }; may = record { place = record { held = refl; in_range = lit< tt }; held = refl; was = refl; shaded = λ marking. refl } },
   (
-    record { in_range = lit< tt; frame = record { opened = refl; continues = tt }; may = tt },
+    record { in_range = lit< tt; frame = record { opened = refl; continues = tt; parts = tt }; may = tt },
     (
       record { in_range = lit< tt; slice = refl; may = tt },
       (
@@ -235,7 +235,7 @@ cluster_released_legal = legal_join small beginning half_finished (drop 36 clust
         (
           record { in_range = lit< tt; frame = refl; may = refl },
           (
-            record { in_range = lit< tt; frame = record { opened = refl; continues = tt }; may = refl },
+            record { in_range = lit< tt; frame = record { opened = refl; continues = tt; parts = tt }; may = refl },
             tt,
           ),
         ),
@@ -256,9 +256,9 @@ all_marked = all_contain (λ u. is_marked to_commit_again.marks u ≡ true) to_c
 
 pub busy_legal : Legal small busy
 busy_legal = legal_join small beginning cluster_released (drop 42 busy) cluster_released_legal (
-  record { in_range = lit< tt; frame = record { opened = refl; continues = tt }; may = refl },
+  record { in_range = lit< tt; frame = record { opened = refl; continues = tt; parts = tt }; may = refl },
   (
-    record { in_range = lit< tt; frame = record { opened = refl; continues = tt }; may = tt },
+    record { in_range = lit< tt; frame = record { opened = refl; continues = tt; parts = tt }; may = tt },
     (
       record { finishes = refl; may = (record { idle = refl; released = refl }, refl) },
       (

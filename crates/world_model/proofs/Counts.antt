@@ -18,6 +18,7 @@ use Rattle.world_model.specs.Next.{lane_of, next_world}
 use Rattle.world_model.specs.Histories.{MayBy}
 use Rattle.world_model.specs.Follows.{made_by, freed_by}
 use Rattle.world_model.proofs.NameFacts.{same_name_refl}
+use Rattle.world_model.proofs.Loosening.{members_parted}
 use Rattle.world_model.proofs.Queues.{names_kept}
 
 -- ---- counts
@@ -132,4 +133,5 @@ next_total z s p (act.Begun of) may none q = ap (λ (ns : List Name). count_by q
 next_total z s p (act.Asked of poll answer) may none q = ap (λ (ns : List Name). count_by q (members s.world.units) + count_by q ns + 0) (names_kept of (λ r. record r { polls = poll }) (λ r. refl) s.world.removals)
 next_total z s p (act.Finished of) may none q = ap (λ (ns : List Name). count_by q (members s.world.units) + count_by q ns + 0) (names_kept of (λ r. record r { stage = Finished }) (λ r. refl) s.world.removals)
 next_total z s p (act.Released of) may none q = let parts = released_total q (members (filter (begins_with of) s.world.last_removed)) s.world.removals in omega arith
+next_total z s p (act.Loose of) may none q = ap (λ (ns : List Name). count_by q ns + count_by q (names_of s.world.removals) + 0) (members_parted of s.world.units)
 next_total z s p _ may none q = refl

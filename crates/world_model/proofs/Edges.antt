@@ -29,19 +29,19 @@ frame_again_legal = legal_join small beginning four_linked (drop 10 frame_again)
 in_company_legal : Legal small in_company
 in_company_legal = legal_join small beginning slice_opened (drop 14 in_company) slice_opened_legal (
   record { in_range = lit< tt; frame = refl; may = refl },
-  (record { in_range = lit< tt; frame = record { opened = refl; continues = tt }; may = tt }, tt),
+  (record { in_range = lit< tt; frame = record { opened = refl; continues = tt; parts = tt }; may = tt }, tt),
 )
 
 closed_unmarked_legal : Legal small closed_unmarked
 closed_unmarked_legal = legal_join small beginning root_marked (drop 12 closed_unmarked) root_marked_legal (
   record { in_range = lit< tt; frame = refl; may = refl },
-  (record { in_range = lit< tt; frame = record { opened = refl; continues = tt }; may = tt }, tt),
+  (record { in_range = lit< tt; frame = record { opened = refl; continues = tt; parts = tt }; may = tt }, tt),
 )
 
 closed_marked_legal : Legal small closed_marked
 closed_marked_legal = legal_join small beginning second_marked (drop 20 closed_marked) second_marked_legal (
-  record { in_range = lit< tt; frame = record { opened = refl; continues = refl }; may = record { place = record { held = refl; in_range = lit< tt }; held = refl; was = refl; shaded = λ marking. refl } },
-  (record { in_range = lit< tt; frame = record { opened = refl; continues = tt }; may = tt }, tt),
+  record { in_range = lit< tt; frame = record { opened = refl; continues = refl; parts = tt }; may = record { place = record { held = refl; in_range = lit< tt }; held = refl; was = refl; shaded = λ marking. refl } },
+  (record { in_range = lit< tt; frame = record { opened = refl; continues = tt; parts = tt }; may = tt }, tt),
 )
 
 two_scanned_legal : Legal small two_scanned
@@ -49,7 +49,7 @@ two_scanned_legal = (legal_split small beginning (take 50 busy) (drop 50 busy) b
 
 made_amid_legal : Legal small made_amid
 made_amid_legal = legal_join small beginning second_met (drop 19 made_amid) second_met_legal (
-  record { in_range = lit< tt; frame = record { opened = refl; continues = tt }; may = record { some = lit≤ tt; few = lit≤ tt; lawful = refl; next = refl; names = lit≤ tt; room = lit≤ tt } },
+  record { in_range = lit< tt; frame = record { opened = refl; continues = tt; parts = tt }; may = record { some = lit≤ tt; few = lit≤ tt; lawful = refl; next = refl; names = lit≤ tt; room = lit≤ tt } },
   tt,
 )
 
@@ -66,22 +66,22 @@ reference_read_legal : Legal small reference_read
 reference_read_legal = (
   record { in_range = lit< tt; frame = refl; may = refl },
   (
-    record { in_range = lit< tt; frame = record { opened = refl; continues = tt }; may = record { some = lit≤ tt; few = lit≤ tt; lawful = refl; next = refl; names = lit≤ tt; room = lit≤ tt } },
+    record { in_range = lit< tt; frame = record { opened = refl; continues = tt; parts = tt }; may = record { some = lit≤ tt; few = lit≤ tt; lawful = refl; next = refl; names = lit≤ tt; room = lit≤ tt } },
     (
-      record { in_range = lit< tt; frame = record { opened = refl; continues = tt }; may = record { number = lit< tt; held = refl; was = refl; shaded = λ marking. absurd cc } },
+      record { in_range = lit< tt; frame = record { opened = refl; continues = tt; parts = tt }; may = record { number = lit< tt; held = refl; was = refl; shaded = λ marking. absurd cc } },
       (
-        record { in_range = lit< tt; frame = record { opened = refl; continues = tt }; may = record { some = lit≤ tt; few = lit≤ tt; lawful = refl; next = refl; names = lit≤ tt; room = lit≤ tt } },
+        record { in_range = lit< tt; frame = record { opened = refl; continues = tt; parts = tt }; may = record { some = lit≤ tt; few = lit≤ tt; lawful = refl; next = refl; names = lit≤ tt; room = lit≤ tt } },
         (
-          record { in_range = lit< tt; frame = record { opened = refl; continues = tt }; may = record { place = record { held = refl; in_range = lit< tt }; held = refl; was = refl; shaded = λ marking. absurd cc } },
+          record { in_range = lit< tt; frame = record { opened = refl; continues = tt; parts = tt }; may = record { place = record { held = refl; in_range = lit< tt }; held = refl; was = refl; shaded = λ marking. absurd cc } },
           (
-            record { in_range = lit< tt; frame = record { opened = refl; continues = tt }; may = tt },
+            record { in_range = lit< tt; frame = record { opened = refl; continues = tt; parts = tt }; may = tt },
             (
               record { finishes = refl; may = (record { idle = refl; released = refl }, refl) },
               (
                 record { finishes = refl; may = record { white = record { marking = refl; living = refl; unmarked = refl }; started = refl; root = inl (name 1, refl, inr (0, 0, refl)) } },
                 (
                   record { in_range = lit< tt; frame = refl; may = refl },
-                  (record { in_range = lit< tt; frame = record { opened = refl; continues = tt }; may = (lit< tt, refl) }, tt),
+                  (record { in_range = lit< tt; frame = record { opened = refl; continues = tt; parts = tt }; may = (lit< tt, refl) }, tt),
                 ),
               ),
             ),
@@ -94,14 +94,14 @@ reference_read_legal = (
 
 taken_before_legal : Legal small taken_before
 taken_before_legal = legal_join small beginning reference_read (drop 10 taken_before) reference_read_legal (
-  record { in_range = lit< tt; frame = record { opened = refl; continues = tt }; may = record { place = record { held = refl; in_range = lit< tt }; held = tt; was = refl; shaded = λ marking. tt } },
+  record { in_range = lit< tt; frame = record { opened = refl; continues = tt; parts = tt }; may = record { place = record { held = refl; in_range = lit< tt }; held = tt; was = refl; shaded = λ marking. tt } },
   (record { in_range = lit< tt; slice = refl; may = tt }, tt),
 )
 
 taken_within_legal : Legal small taken_within
 taken_within_legal = legal_join small beginning reference_read (drop 10 taken_within) reference_read_legal (
   record { in_range = lit< tt; slice = refl; may = tt },
-  (record { in_range = lit< tt; frame = record { opened = refl; continues = tt }; may = record { place = record { held = refl; in_range = lit< tt }; held = tt; was = refl; shaded = λ marking. tt } }, tt),
+  (record { in_range = lit< tt; frame = record { opened = refl; continues = tt; parts = tt }; may = record { place = record { held = refl; in_range = lit< tt }; held = tt; was = refl; shaded = λ marking. tt } }, tt),
 )
 
 -- ---- behind a reference that was taken away before the slice
@@ -139,11 +139,11 @@ edges = record {
     refused = record { before = asked_again_legal; wrong = λ may. let wrong : false ≡ true = may.may.started in cc };
   };
   held_in_frame = record {
-    allowed = record { before = four_made_legal; right = record { in_range = lit< tt; frame = record { opened = refl; continues = tt }; may = record { held = refl; was = refl; shaded = λ on marking. absurd cc } } };
+    allowed = record { before = four_made_legal; right = record { in_range = lit< tt; frame = record { opened = refl; continues = tt; parts = tt }; may = record { held = refl; was = refl; shaded = λ on marking. absurd cc } } };
     refused = record { before = frame_again_legal; wrong = λ may. let wrong : false ≡ true = may.may.held in cc };
   };
   held_by_lane = record {
-    allowed = record { before = two_lanes_legal; right = record { in_range = lit< tt; frame = record { opened = refl; continues = tt }; may = record { held = refl; was = refl; shaded = λ on marking. absurd cc } } };
+    allowed = record { before = two_lanes_legal; right = record { in_range = lit< tt; frame = record { opened = refl; continues = tt; parts = tt }; may = record { held = refl; was = refl; shaded = λ on marking. absurd cc } } };
     refused = record { before = two_lanes_legal; wrong = λ may. let wrong : false ≡ true = may.may.held in cc };
   };
   idle_in_company = record {
@@ -167,11 +167,11 @@ edges = record {
     refused = record { before = root_marked_legal; wrong = λ may. let wrong : 0 < 0 = may.may.some in omega (arith, wrong) };
   };
   made_is_marked = record {
-    allowed = record { before = made_amid_legal; right = record { in_range = lit< tt; frame = record { opened = refl; continues = tt }; may = record { place = record { held = refl; in_range = lit< tt }; held = refl; was = refl; shaded = λ marking. refl } } };
+    allowed = record { before = made_amid_legal; right = record { in_range = lit< tt; frame = record { opened = refl; continues = tt; parts = tt }; may = record { place = record { held = refl; in_range = lit< tt }; held = refl; was = refl; shaded = λ marking. refl } } };
     refused = record { before = made_amid_legal; wrong = λ may. let wrong : false ≡ true = may.may.shaded refl in cc };
   };
   mark_is_paid = record {
-    allowed = record { before = second_marked_legal; right = record { in_range = lit< tt; frame = record { opened = refl; continues = refl }; may = record { place = record { held = refl; in_range = lit< tt }; held = refl; was = refl; shaded = λ marking. refl } } };
+    allowed = record { before = second_marked_legal; right = record { in_range = lit< tt; frame = record { opened = refl; continues = refl; parts = tt }; may = record { place = record { held = refl; in_range = lit< tt }; held = refl; was = refl; shaded = λ marking. refl } } };
     refused = record { before = second_marked_legal; wrong = λ may. may.frame.continues };
   };
   referred_within = record {
@@ -179,11 +179,11 @@ edges = record {
     refused = record { before = taken_before_legal; wrong = λ may. never_referred may.may.from (first_is_grey may.may.from may.may.unit may.may.grey) may.may.refers };
   };
   none_from_commit = record {
-    allowed = record { before = removed_frame_legal; right = record { in_range = lit< tt; frame = record { opened = refl; continues = tt }; may = refl } };
+    allowed = record { before = removed_frame_legal; right = record { in_range = lit< tt; frame = record { opened = refl; continues = tt; parts = tt }; may = refl } };
     refused = record { before = removed_frame_legal; wrong = λ may. let wrong : ◌≡◌ {A = Option Name} (Some (name 3)) None = may.may in cc };
   };
   full_until_release = record {
-    allowed = record { before = removed_frame_legal; right = record { in_range = lit< tt; frame = record { opened = refl; continues = tt }; may = record { names = lit≤ tt; rest = refl; short = lit< tt } } };
+    allowed = record { before = removed_frame_legal; right = record { in_range = lit< tt; frame = record { opened = refl; continues = tt; parts = tt }; may = record { names = lit≤ tt; rest = refl; short = lit< tt } } };
     refused = record { before = cluster_released_legal; wrong = λ may. let wrong : ◌≡◌ {A = ℕ} 4 6 = may.may.rest in omega (arith, wrong) };
   };
   finished_next = record {

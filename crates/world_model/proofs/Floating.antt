@@ -18,7 +18,7 @@ use Rattle.world_model.specs.Next.{next_world, next_marks, next_by, next, lane_o
 use Rattle.world_model.specs.LaneSteps.{PaysFor}
 use Rattle.world_model.specs.Histories.{MayBy, May, Legal, state_of, after}
 use Rattle.world_model.specs.Laws.{started, done}
-use Rattle.world_model.specs.Follows.{IsMade, made_by, is_done, stored_by, names_stored, IsReachedFrom, FloatingIsBounded, UnreachedIsRemoved}
+use Rattle.world_model.specs.Follows.{IsMade, IsParted, made_by, is_done, stored_by, names_stored, IsReachedFrom, FloatingIsBounded, UnreachedIsRemoved}
 use Rattle.world_model.proofs.ListFacts.{and_true, or_true, any_filter, Among, among_left, among_right, among_filter_test, test_among, among_contains, contains_among}
 use Rattle.world_model.proofs.NameFacts.{same_name_true, among_has, set_at_same}
 use Rattle.world_model.proofs.Joins.{histories_join}
@@ -27,7 +27,7 @@ use Rattle.world_model.proofs.Units.{AreApart, units_apart}
 use Rattle.world_model.proofs.Quiet.{not_open}
 use Rattle.world_model.proofs.Inductions.{by_more, one_more, one_more_of}
 use Rattle.world_model.proofs.Sound.{sound, made_living, made_stays, is_new}
-use Rattle.world_model.proofs.Barrier.{IsNamed, barred, own_unit, member_lives, cells_after, set_name_here, set_at_here, set_at_other, lived}
+use Rattle.world_model.proofs.Barrier.{IsNamed, barred, own_unit, member_lives, cells_after, set_name_here, set_at_here, set_at_other, lived, loosens_may}
 use Rattle.world_model.proofs.Removals.{still_marking, removal}
 use Rattle.world_model.proofs.Frames.{set_at_miss, open_next}
 
@@ -268,16 +268,17 @@ module _ (w0 : World) (stored : List Name) where
   moments_next s p _ w now h = (now, h)
 
 -- what is made is new
-fresh_next : (z : Sizes) (w0 : World) (s : State) (p : Pass) (a : Act) → MayBy z s p a → ((n : Name) → IsMade w0 n → IsMade s.world n) → ((n : Name) → has s.marks.fresh n ≡ true → IsMade w0 n → ⊥)
+fresh_next : (z : Sizes) (w0 : World) (s : State) (p : Pass) (a : Act) → MayBy z s p a → s.world.phase ≡ Marking → ((n : Name) → IsMade w0 n → IsMade s.world n) → ((n : Name) → has s.marks.fresh n ≡ true → IsMade w0 n → ⊥)
     → (n : Name) → has (next_marks s.marks (next_world s.marks s.world p a) p a).fresh n ≡ true → IsMade w0 n → ⊥
-fresh_next z w0 s p (act.Make kinds first) may made h n is m = go (or_true _ _ (sym (list_any-append (same_name n) (names_from (lane_of p) first kinds) s.marks.fresh) ∙ is))
+fresh_next z w0 s p (act.Make kinds first) may marking made h n is m = go (or_true _ _ (sym (list_any-append (same_name n) (names_from (lane_of p) first kinds) s.marks.fresh) ∙ is))
   where
     go : (has (names_from (lane_of p) first kinds) n ≡ true) ⊎ (has s.marks.fresh n ≡ true) → ⊥
     go (inl new) = (is_new z s p (act.Make kinds first) n may new).0 (made n m)
     go (inr old) = h n old m
-fresh_next z w0 s p (act.BeginGc begin.Started) may made h n is m = absurd cc
-fresh_next z w0 s p (act.CommitGc commit.Done) may made h n is m = h n is m
-fresh_next z w0 s p _ may made h n is m = h n is m
+fresh_next z w0 s p (act.Loose of) may marking made h n is m = (loosens_may z s p of may).2.unmarked marking
+fresh_next z w0 s p (act.BeginGc begin.Started) may marking made h n is m = absurd cc
+fresh_next z w0 s p (act.CommitGc commit.Done) may marking made h n is m = h n is m
+fresh_next z w0 s p _ may marking made h n is m = h n is m
 
 module _ (z : Sizes) (w0 : World) (stored : List Name) (s : State) (named : IsNamed w0) (apart : AreApart s.world.kinds s.world.units) (h : IsFloating w0 stored s) where
   -- a unit that is marked now floats
@@ -316,16 +317,18 @@ module _ (z : Sizes) (w0 : World) (stored : List Name) (s : State) (named : IsNa
       now_next,
       slices_next w0 (stored ++ option_to_list (stored_by a)) z s p a may (λ i o. all_more w0 stored (option_to_list (stored_by a)) (s.slices i).moments (h.in_slices i o)) m opened,
     );
-    fresh = fresh_next z w0 s p a may h.made h.fresh;
+    fresh = fresh_next z w0 s p a may h.marking h.made h.fresh;
     kept = kept_next p a may;
   }
     where
       now_next : IsFromStart w0 (stored ++ option_to_list (stored_by a)) (next_world s.marks s.world p a)
       now_next = from_start_next w0 stored s p a other h.now
 
-      stays : (u : List Name) → IsUnit (graph (next_world s.marks s.world p a)) u ⊎ ((◌≡◌ {A = Entry} (record { pass = p; act = a }) done) × Contains (next_world s.marks s.world p a).last_removed u) → Among (next_world s.marks s.world p a).units u
+      stays : (u : List Name) → IsUnit (graph (next_world s.marks s.world p a)) u ⊎ IsParted (next_world s.marks s.world p a) (record { pass = p; act = a }) u
+          ⊎ ((◌≡◌ {A = Entry} (record { pass = p; act = a }) done) × Contains (next_world s.marks s.world p a).last_removed u) → Among (next_world s.marks s.world p a).units u
       stays u (inl unit) = contains_among _ u unit
-      stays u (inr gone) = absurd (both_ways (is_done a) other (ap (λ (e : Entry). is_done e.act) gone.0))
+      stays u (inr (inl parts)) = absurd ((loosens_may z s p parts.of (subst (MayBy z s p) parts.by may)).2.unmarked h.marking)
+      stays u (inr (inr gone)) = absurd (both_ways (is_done a) other (ap (λ (e : Entry). is_done e.act) gone.0))
 
       lived_before : (n : Name) → IsMade w0 n → (in_world s.world n ≡ true) ⊎ (has (made_by p a) n ≡ true) → in_world w0 n ≡ true
       lived_before n m (inl lives) = h.lived_then n lives m
@@ -422,7 +425,8 @@ unreached_is_removed_holds z before during legal all u unit unreached unstored =
     neither (inl reached) = unreached reached
     neither (inr stored) = unstored stored
 
-    go : IsUnit (graph (next (state_of (before ++ started ∷ during)) done).world) u ⊎ ((done ≡ done) × Contains (next (state_of (before ++ started ∷ during)) done).world.last_removed u)
+    go : IsUnit (graph (next (state_of (before ++ started ∷ during)) done).world) u ⊎ IsParted (next (state_of (before ++ started ∷ during)) done).world done u ⊎ ((done ≡ done) × Contains (next (state_of (before ++ started ∷ during)) done).world.last_removed u)
         → Contains (next (state_of (before ++ started ∷ during)) done).world.last_removed u
     go (inl stays) = absurd (neither (floating_is_bounded_holds z before during legal all u unit (subst (λ (s : State). IsUnit (graph s.world) u) (sym (one_more (before ++ started ∷ during) done)) stays)))
-    go (inr gone) = gone.1
+    go (inr (inl parts)) = absurd (let wrong = parts.by in cc)
+    go (inr (inr gone)) = gone.1

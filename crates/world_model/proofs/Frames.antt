@@ -1,6 +1,6 @@
 -- What stays while a frame or slice is open, and while others act; and how many may be open.
 use Rattle.std.proofs.Common.{◌≡◌, ◌≢◌, ℕ, ◌+◌, ◌≤◌, ◌<◌, zero, suc, refl, sym, subst, ap, ◌∙◌, inl, inr, arith, Bool, cond, true, false, not, ◌||◌, ◌==◌, List, [], ◌∷◌, ◌++◌, filter, length, Option, Some, unwrap_or, ◌⊎◌, append-nil, is_some, if◌then◌else◌}
-use Rattle.std.specs.List.{list_any, count_by, find}
+use Rattle.std.specs.List.{list_any, count_by, find, AllByRecursion}
 use Rattle.std.proofs.lemmas.Bool.{both_ways, not_from_false, false_from_ne_true, eqb-true, eq-eqb, ne_eqb, or_right}
 use Rattle.std.proofs.lemmas.List.Filters.{sum_by-filter_both}
 use Rattle.world_model.specs.Types.{Name, Phase, Idle, Gathering, SweepStop, Pass, Lane, Marker, Collector, Act, Entry}
@@ -15,18 +15,18 @@ use Rattle.world_model.specs.State.{State, is_marked}
 use Rattle.world_model.specs.Next.{next_world, next_by, next, settled, lane_of}
 use Rattle.world_model.specs.CollectorSteps.{SweepMay}
 use Rattle.world_model.specs.Histories.{MayBy, May, Legal, state_of, after}
-use Rattle.world_model.specs.Follows.{IsMade, made_by, is_start, is_done, UnitStays, PhaseStays, Closes, IsKeptOpen, OpenKeeps, IsOwn, OwnStays, OwnJoins, IsActor, FewOpen}
+use Rattle.world_model.specs.Follows.{IsMade, made_by, loosens, is_start, is_done, UnitStays, UnitsNeverJoin, OwnUnitsStay, PhaseStays, Closes, IsKeptOpen, OpenKeeps, IsOwn, OwnStays, OwnJoins, IsActor, FewOpen}
 use Rattle.world_model.proofs.ListFacts.{any_filter, filter_any, Among, among_filter, among_filter_test, contains_among}
 use Rattle.world_model.proofs.Quiet.{not_open}
-use Rattle.world_model.proofs.Inductions.{by_states, by_more, by_more_states, one_more_of}
+use Rattle.world_model.proofs.Inductions.{by_states, by_more, by_more_states, one_more_of, all_trivial, all_split}
 use Rattle.world_model.proofs.Counts.{count-append, count-cons, uncounted}
 use Rattle.world_model.proofs.Stages.{one_counted}
-use Rattle.world_model.proofs.Barrier.{lived, living_stays, own_unit}
+use Rattle.world_model.proofs.Barrier.{lived, living_stays, own_unit, unit_lives, loosens_may}
 use Rattle.world_model.proofs.Joins.{histories_join}
 use Rattle.world_model.proofs.NameFacts.{found_unit}
 use Rattle.world_model.proofs.Units.{AreApart, units_apart}
 use Rattle.world_model.proofs.Sound.{sound, made_living, made_stays, is_new}
-use Rattle.world_model.proofs.Pairs.{all_trivial}
+use Rattle.world_model.proofs.Loosening.{ends_own, unit_of_loose, stays_whole, part_within}
 
 -- ---- passes
 
@@ -52,39 +52,89 @@ find_front p (x ∷ xs) ys h = go (p x) refl h (find_front p xs ys)
     go true e h rest = refl
     go false e h rest = rest h
 
-unit_stays : (s : State) (p : Pass) (a : Act) (n : Name) → is_done a ≡ false → in_world s.world n ≡ true → unit_of (next_world s.marks s.world p a) n ≡ unit_of s.world n
-unit_stays s p (act.Make kinds first) n other h = ap (λ (o : Option (List Name)). unwrap_or o []) (find_front (λ u. has u n) s.world.units (names_from (lane_of p) first kinds ∷ []) h)
-unit_stays s p (act.CommitGc commit.Done) n other h = absurd cc
-unit_stays s p (act.BeginGc begin.Started) n other h = refl
-unit_stays s p _ n other h = refl
+unit_stays : (s : State) (p : Pass) (a : Act) (n : Name) → is_done a ≡ false → loosens a (unit_of s.world n) ≡ false → in_world s.world n ≡ true → unit_of (next_world s.marks s.world p a) n ≡ unit_of s.world n
+unit_stays s p (act.Make kinds first) n other whole h = ap (λ (o : Option (List Name)). unwrap_or o []) (find_front (λ u. has u n) s.world.units (names_from (lane_of p) first kinds ∷ []) h)
+unit_stays s p (act.CommitGc commit.Done) n other whole h = absurd cc
+unit_stays s p (act.BeginGc begin.Started) n other whole h = refl
+unit_stays s p (act.Loose of) n other whole h = unit_of_loose s.world of n ∙ stays_whole of n (unit_of s.world n) whole
+unit_stays s p _ n other whole h = refl
 
 -- also over a commit, where the object outlives it
-unit_stays_living : (s : State) (p : Pass) (a : Act) (n : Name) → AreApart s.world.kinds s.world.units → in_world s.world n ≡ true → in_world (next_world s.marks s.world p a) n ≡ true
+unit_stays_living : (s : State) (p : Pass) (a : Act) (n : Name) → AreApart s.world.kinds s.world.units → loosens a (unit_of s.world n) ≡ false → in_world s.world n ≡ true → in_world (next_world s.marks s.world p a) n ≡ true
     → unit_of (next_world s.marks s.world p a) n ≡ unit_of s.world n
-unit_stays_living s p (act.CommitGc commit.Done) n apart lives now =
+unit_stays_living s p (act.CommitGc commit.Done) n apart whole lives now =
     let unit = found_unit (filter (is_marked s.marks) s.world.units) n now in
     sym (own_unit s.world apart (unit_of (next_world s.marks s.world p (act.CommitGc commit.Done)) n) n (among_filter (is_marked s.marks) s.world.units _ unit.0) unit.1)
-unit_stays_living s p (act.BeginGc begin.Started) n apart lives now = refl
-unit_stays_living s p (act.Make kinds first) n apart lives now = unit_stays s p (act.Make kinds first) n refl lives
-unit_stays_living s p _ n apart lives now = refl
+unit_stays_living s p (act.BeginGc begin.Started) n apart whole lives now = refl
+unit_stays_living s p (act.Make kinds first) n apart whole lives now = unit_stays s p (act.Make kinds first) n refl refl lives
+unit_stays_living s p (act.Loose of) n apart whole lives now = unit_stays s p (act.Loose of) n refl whole lives
+unit_stays_living s p _ n apart whole lives now = refl
 
-pub unit_stays_holds : UnitStays
-unit_stays_holds z before more legal n lives now =
-    (by_more_states z before (λ s. IsMade s.world n × (in_world s.world n ≡ true → unit_of s.world n ≡ unit_of (after before) n)) (λ e. Unit {0})
+-- an object that was made and lives lived before
+lived_then : (z : Sizes) (s : State) (e : Entry) (n : Name) → May z s e → IsMade s.world n → in_world (next s e).world n ≡ true → in_world s.world n ≡ true
+lived_then z s e n may made now = old (lived s e.pass e.act n now)
+  where
+    old : (in_world s.world n ≡ true) ⊎ (has (made_by e.pass e.act) n ≡ true) → in_world s.world n ≡ true
+    old (inl lives) = lives
+    old (inr new) = absurd ((is_new z s e.pass e.act n may new).0 made)
+
+-- An object stays in its unit under entries none of which takes the last member out of that.
+unit_stays_by : (z : Sizes) (before more : List Entry) (n : Name) (Q : Entry → Type 0) → Legal z (before ++ more) → in_world (after before) n ≡ true → in_world (after (before ++ more)) n ≡ true
+    → ((s : State) (e : Entry) → AreApart s.world.kinds s.world.units → May z s e → Q e → in_world s.world n ≡ true → unit_of s.world n ≡ unit_of (after before) n → loosens e.act (unit_of s.world n) ≡ false)
+    → AllByRecursion Q more → unit_of (after (before ++ more)) n ≡ unit_of (after before) n
+unit_stays_by z before more n Q legal lives now none all =
+    (by_more_states z before (λ s. IsMade s.world n × (in_world s.world n ≡ true → unit_of s.world n ≡ unit_of (after before) n)) Q
     (made_living (after before) (sound z before start).once n lives, λ h. refl)
     (λ xs e legal may q h. (
       made_stays (state_of xs) e.pass e.act n h.0,
       λ lives_now.
-          let lived_then = old z (state_of xs) e may h.0 (lived (state_of xs) e.pass e.act n lives_now) in
-          unit_stays_living (state_of xs) e.pass e.act n (units_apart z xs legal) lived_then lives_now ∙ h.1 lived_then,
-    )) more legal (all_trivial more)).1 now
+          let apart = units_apart z xs legal in
+          let old = lived_then z (state_of xs) e n may h.0 lives_now in
+          unit_stays_living (state_of xs) e.pass e.act n apart (none (state_of xs) e apart may q old (h.1 old)) old lives_now ∙ h.1 old,
+    )) more legal all).1 now
   where
     start : Legal z before
     start = ((histories_join.legal z before more).0 legal).0
 
-    old : (z : Sizes) (s : State) (e : Entry) → May z s e → IsMade s.world n → (in_world s.world n ≡ true) ⊎ (has (made_by e.pass e.act) n ≡ true) → in_world s.world n ≡ true
-    old z s e may made (inl lives) = lives
-    old z s e may made (inr new) = absurd ((is_new z s e.pass e.act n may new).0 made)
+pub unit_stays_holds : UnitStays
+unit_stays_holds z before more legal n lives now all =
+    unit_stays_by z before more n (λ e. loosens e.act (unit_of (after before) n) ≡ false) legal lives now (λ s e apart may q old same. ap (loosens e.act) same ∙ q) all
+
+-- a lane parts no unit of another lane
+no_other : (z : Sizes) (s : State) (p : Pass) (a : Act) (n : Name) → AreApart s.world.kinds s.world.units → MayBy z s p a → p ≢ Lane n.lane → in_world s.world n ≡ true → loosens a (unit_of s.world n) ≡ false
+no_other z s p (act.Loose of) n apart may other lives = false_from_ne_true _ (λ ends.
+    let by = loosens_may z s p of may in
+    let unit = found_unit s.world.units n lives in
+    other (by.1 ∙ ap (λ (l : ℕ). Lane l) (sym by.2.own ∙ apart.one_lane (unit_of s.world n) of n unit.0 (ends_own of (unit_of s.world n) ends) unit.1)))
+no_other z s p _ n apart may other lives = refl
+
+pub own_units_stay_holds : OwnUnitsStay
+own_units_stay_holds z before during n legal all lives now =
+    unit_stays_by z before during n (λ e. e.pass ≢ Lane n.lane) legal lives now (λ s e apart may other old same. no_other z s e.pass e.act n apart may other old) all
+
+-- what stands in one unit after an entry stood in one before it
+pub never_join : (z : Sizes) (s : State) (p : Pass) (a : Act) (n m : Name) → AreApart s.world.kinds s.world.units → in_world s.world n ≡ true → in_world (next_world s.marks s.world p a) n ≡ true
+    → has (unit_of (next_world s.marks s.world p a) n) m ≡ true → has (unit_of s.world n) m ≡ true
+never_join z s p (act.Loose of) n m apart lives now h = part_within of n (unit_of s.world n) m (ap (λ (u : List Name). has u m) (sym (unit_of_loose s.world of n)) ∙ h)
+never_join z s p (act.Make kinds first) n m apart lives now h = ap (λ (u : List Name). has u m) (sym (unit_stays_living s p (act.Make kinds first) n apart refl lives now)) ∙ h
+never_join z s p (act.CommitGc commit.Done) n m apart lives now h = ap (λ (u : List Name). has u m) (sym (unit_stays_living s p (act.CommitGc commit.Done) n apart refl lives now)) ∙ h
+never_join z s p (act.BeginGc begin.Started) n m apart lives now h = h
+never_join z s p _ n m apart lives now h = h
+
+pub units_never_join_holds : UnitsNeverJoin
+units_never_join_holds z before more legal n m lives h =
+    (by_more_states z before (λ s. IsMade s.world n × (has (unit_of s.world n) m ≡ true → has (unit_of (after before) n) m ≡ true)) (λ e. Unit {0})
+    (made_living (after before) (sound z before start).once n lives, λ h. h)
+    (λ xs e legal may q h. (
+      made_stays (state_of xs) e.pass e.act n h.0,
+      λ k.
+          let lives_now = unit_lives (next (state_of xs) e).world n m k in
+          let old = lived_then z (state_of xs) e n may h.0 lives_now in
+          h.1 (never_join z (state_of xs) e.pass e.act n m (units_apart z xs legal) old lives_now k),
+    )) more legal (all_trivial more)).1 h
+  where
+    start : Legal z before
+    start = ((histories_join.legal z before more).0 legal).0
 
 no_start : (z : Sizes) (s : State) (p : Pass) (a : Act) (q : Pass) → MayBy z s p a → is_open s.world q ≡ true → is_start a ≡ false
 no_start z s Collector (act.BeginGc begin.Started) q may h = absurd (not_open s.world q h may.may.1)
@@ -136,7 +186,7 @@ open_keeps_holds z before during q legal is all = by_more z before Kept (λ e. C
 
     first : Kept []
     first = subst (λ (xs : List Entry). IsKeptOpen q (after before) (after xs) []) (sym (append-nil before))
-        (record { opened = is; starts = refl; commits = refl; phase = inl refl; lives = λ n h. h; units = λ n h. refl })
+        (record { opened = is; starts = refl; commits = refl; phase = inl refl; lives = λ n h. h; units = λ n h none. refl })
 
     step : (ds : List Entry) (e : Entry) → Legal z (before ++ ds) → May z (state_of (before ++ ds)) e → (Closes q e → ⊥) → Kept ds → Kept (ds ++ e ∷ [])
     step ds e legal may other h =
@@ -150,7 +200,10 @@ open_keeps_holds z before during q legal is all = by_more z before Kept (λ e. C
           commits = none (λ e. is_done e.act) ds e commit h.commits;
           phase = phase_joins (after before).phase s.world.phase (next s e).world.phase h.phase (phase_next z s e.pass e.act may start commit);
           lives = λ n k. living_stays s e.pass e.act n commit (h.lives n k);
-          units = λ n k. unit_stays s e.pass e.act n commit (h.lives n k) ∙ h.units n k;
+          units = λ n k all.
+              let parts = all_split (λ e. loosens e.act (unit_of (after before) n) ≡ false) ds (e ∷ []) all in
+              let same = h.units n k parts.0 in
+              unit_stays s e.pass e.act n commit (ap (loosens e.act) same ∙ parts.1.0) (h.lives n k) ∙ same;
         })
       where
         none : (p : Entry → Bool) (ds : List Entry) (e : Entry) → p e ≡ false → count_by p ds ≡ 0 → count_by p (ds ++ e ∷ []) ≡ 0

@@ -61,19 +61,19 @@ garbage_legal : Legal small garbage
 garbage_legal = (
   record { in_range = lit< tt; frame = refl; may = refl },
   (
-    record { in_range = lit< tt; frame = record { opened = refl; continues = tt }; may = record { some = lit≤ tt; few = lit≤ tt; lawful = refl; next = refl; names = lit≤ tt; room = lit≤ tt } },
+    record { in_range = lit< tt; frame = record { opened = refl; continues = tt; parts = tt }; may = record { some = lit≤ tt; few = lit≤ tt; lawful = refl; next = refl; names = lit≤ tt; room = lit≤ tt } },
     (
-      record { in_range = lit< tt; frame = record { opened = refl; continues = tt }; may = record { held = refl; pair = record { left = lit< tt; serial = refl; index = lit< tt } } },
+      record { in_range = lit< tt; frame = record { opened = refl; continues = tt; parts = tt }; may = record { held = refl; pair = record { left = lit< tt; serial = refl; index = lit< tt } } },
       (
-        record { in_range = lit< tt; frame = record { opened = refl; continues = tt }; may = record { some = lit≤ tt; few = lit≤ tt; lawful = refl; next = refl; names = lit≤ tt; room = lit≤ tt } },
+        record { in_range = lit< tt; frame = record { opened = refl; continues = tt; parts = tt }; may = record { some = lit≤ tt; few = lit≤ tt; lawful = refl; next = refl; names = lit≤ tt; room = lit≤ tt } },
         (
-          record { in_range = lit< tt; frame = record { opened = refl; continues = tt }; may = record { held = refl; pair = record { left = lit< tt; serial = refl; index = lit< tt } } },
+          record { in_range = lit< tt; frame = record { opened = refl; continues = tt; parts = tt }; may = record { held = refl; pair = record { left = lit< tt; serial = refl; index = lit< tt } } },
           (
-            record { in_range = lit< tt; frame = record { opened = refl; continues = tt }; may = record { some = lit≤ tt; few = lit≤ tt; lawful = refl; next = refl; names = lit≤ tt; room = lit≤ tt } },
+            record { in_range = lit< tt; frame = record { opened = refl; continues = tt; parts = tt }; may = record { some = lit≤ tt; few = lit≤ tt; lawful = refl; next = refl; names = lit≤ tt; room = lit≤ tt } },
             (
-              record { in_range = lit< tt; frame = record { opened = refl; continues = tt }; may = record { place = record { held = refl; in_range = lit< tt }; held = refl; was = refl; shaded = λ marking. absurd cc } },
+              record { in_range = lit< tt; frame = record { opened = refl; continues = tt; parts = tt }; may = record { place = record { held = refl; in_range = lit< tt }; held = refl; was = refl; shaded = λ marking. absurd cc } },
               (
-                record { in_range = lit< tt; frame = record { opened = refl; continues = tt }; may = tt },
+                record { in_range = lit< tt; frame = record { opened = refl; continues = tt; parts = tt }; may = tt },
                 tt,
               ),
             ),
@@ -90,13 +90,13 @@ stored_legal = legal_join small beginning garbage (started ∷ garbage_stored) g
   (
     record { in_range = lit< tt; frame = refl; may = refl },
     (
-      record { in_range = lit< tt; frame = record { opened = refl; continues = tt }; may = refl },
+      record { in_range = lit< tt; frame = record { opened = refl; continues = tt; parts = tt }; may = refl },
       (
-        record { in_range = lit< tt; frame = record { opened = refl; continues = tt }; may = refl },
+        record { in_range = lit< tt; frame = record { opened = refl; continues = tt; parts = tt }; may = refl },
         (
-          record { in_range = lit< tt; frame = record { opened = refl; continues = tt }; may = record { white = record { marking = refl; living = refl; unmarked = refl }; held = refl } },
+          record { in_range = lit< tt; frame = record { opened = refl; continues = tt; parts = tt }; may = record { white = record { marking = refl; living = refl; unmarked = refl }; held = refl } },
           (
-            record { in_range = lit< tt; frame = record { opened = refl; continues = refl }; may = record { place = record { held = refl; in_range = lit< tt }; held = refl; was = refl; shaded = λ marking. refl } },
+            record { in_range = lit< tt; frame = record { opened = refl; continues = refl; parts = tt }; may = record { place = record { held = refl; in_range = lit< tt }; held = refl; was = refl; shaded = λ marking. refl } },
             tt,
           ),
         ),
@@ -125,7 +125,7 @@ targets_marked u v unit r = all_contain (λ v. (has v (name 2) || has v (name 3)
 
 marked_legal : Legal small ((garbage ++ started ∷ garbage_stored) ++ garbage_scanned)
 marked_legal = legal_join small beginning (garbage ++ started ∷ garbage_stored) garbage_scanned stored_legal (
-  record { in_range = lit< tt; frame = record { opened = refl; continues = tt }; may = tt },
+  record { in_range = lit< tt; frame = record { opened = refl; continues = tt; parts = tt }; may = tt },
   (
     record { in_range = lit< tt; slice = refl; may = tt },
     (

@@ -31,6 +31,7 @@ in_frame : (lane : ℕ) (before w : World) (f : Frame) (a : Act) (n m : Name) �
 in_frame lane before w f (act.FrameOpen phase) n m k h = absurd k
 in_frame lane before w f act.FrameClose n m k h = absurd k
 in_frame lane before w f (act.Kept of) n m k h = absurd k
+in_frame lane before w f (act.Loose of) n m k h = absurd k
 in_frame lane before w f a n m k h =
     list_any-append (same_name m) (flat_map (unit_of w) (given lane a)) f.held
     ∙ or_left (has (flat_map (unit_of w) (given lane a)) m) _ (among_units w (given lane a) n m k h)

@@ -48,6 +48,15 @@ by_more z before P Q first step during legal all =
         subst P (append_assoc ds (e ∷ []) ys)
         (go (ds ++ e ∷ []) ys longer (step ds e legal rest.0 all.0 holds) (subst (λ (s : State). LegalFrom z s ys) (sym (one_more_of before ds e)) rest.1) all.1)
 
+pub all_trivial : (entries : List Entry) → AllByRecursion (λ e. Unit {0}) entries
+all_trivial [] = tt
+all_trivial (e ∷ entries) = (tt, all_trivial entries)
+
+-- what holds of all entries holds of the first ones, and of those behind them
+pub all_split : (P : Entry → Type 0) (xs ys : List Entry) → AllByRecursion P (xs ++ ys) → AllByRecursion P xs × AllByRecursion P ys
+all_split P [] ys all = (tt, all)
+all_split P (x ∷ xs) ys all = let rest = all_split P xs ys all.1 in ((all.0, rest.0), rest.1)
+
 -- the same of a fact on states
 pub by_more_states : (z : Sizes) (before : List Entry) (P : State → Type 0) (Q : Entry → Type 0) → P (state_of before)
     → ((xs : List Entry) (e : Entry) → Legal z xs → May z (state_of xs) e → Q e → P (state_of xs) → P (next (state_of xs) e))

@@ -3,6 +3,8 @@ pub mod NameFacts
 pub mod Joins
 pub mod Reaches
 pub mod Reached
+pub mod Rounds
+pub mod Loosening
 pub mod Units
 pub mod Quiet
 pub mod Collections
@@ -11,7 +13,6 @@ pub mod Worked
 pub mod Busy
 pub mod Refused
 pub mod Progress
-pub mod Rounds
 pub mod Queues
 pub mod Inductions
 pub mod Counts
@@ -23,10 +24,15 @@ pub mod Stages
 pub mod Removals
 pub mod Afters
 pub mod Places
+pub mod Invalid
 pub mod Pairs
 pub mod Frames
+pub mod Holding
+pub mod Dissolving
+pub mod Answering
 pub mod Floating
 pub mod Headlines
 pub mod Garbage
 pub mod Sharp
 pub mod Edges
+pub mod Partings

@@ -1,6 +1,6 @@
 -- In every legal history a pair is one object's, and a weak pointer gives that object exactly while it lives.
-use Rattle.std.proofs.Common.{◌≡◌, ℕ, ◌+◌, ◌*◌, ◌<◌, refl, sym, subst, ap, ◌∙◌, inl, inr, arith, Bool, cond, true, false, ◌==◌, List, [], ◌∷◌, ◌++◌, Option, Some, None, ◌⊎◌, is_some, if◌then◌else◌, MatchOption, option_map, option_and_then}
-use Rattle.std.specs.List.{find, AllByRecursion}
+use Rattle.std.proofs.Common.{◌≡◌, ℕ, ◌+◌, ◌*◌, ◌<◌, refl, sym, subst, ap, ◌∙◌, inl, inr, arith, Bool, cond, true, false, not, ◌&&◌, ◌==◌, List, [], ◌∷◌, ◌++◌, Option, Some, None, ◌⊎◌, is_some, if◌then◌else◌, MatchOption, option_map, option_and_then}
+use Rattle.std.specs.List.{find}
 use Rattle.std.proofs.lemmas.Bool.{both_ways, false_from_ne_true, eqb-true, eq-eqb}
 use Rattle.world_model.specs.Types.{Name, Weak, Pass, Lane, Marker, Collector, Act, Entry}
 use Rattle.world_model.specs.Types.act
@@ -8,16 +8,17 @@ use Rattle.world_model.specs.Types.begin
 use Rattle.world_model.specs.Types.commit
 use Rattle.world_model.specs.Sizes.{Sizes, IsLawful}
 use Rattle.world_model.specs.NameLists.{same_name, same_weak, has}
-use Rattle.world_model.specs.World.{World, Pair, in_world, drawn, pair_of, resolved}
+use Rattle.world_model.specs.World.{World, Pair, in_world, is_given, drawn, pair_of, resolved}
 use Rattle.world_model.specs.State.{State}
 use Rattle.world_model.specs.Next.{next_world, next}
 use Rattle.world_model.specs.LaneSteps.{DrawsPair}
 use Rattle.world_model.specs.Histories.{MayBy, May, Legal, state_of, after}
-use Rattle.world_model.specs.Follows.{entry, IsMade, made_by, WasGiven, WeakPointersHold, WeakPointers, ResolveGives, ResolveGivesNoneAgain, SerialsOnce, NoneComesBack}
+use Rattle.world_model.specs.Follows.{entry, IsMade, made_by, WasGiven, WeakPointers, Gives, ResolveGives, ResolveGivesNoneAgain, SerialsOnce, NoneComesBack}
 use Rattle.world_model.proofs.ListFacts.{and_true, Among, among_append, among_left, among_right, among_contains, contains_among}
 use Rattle.world_model.proofs.NameFacts.{same_name_true, same_name_refl}
 use Rattle.world_model.proofs.Queues.{find_some, find_none}
-use Rattle.world_model.proofs.Inductions.{by_entries, by_states, by_more_states, one_more}
+use Rattle.world_model.proofs.Inductions.{by_entries, by_states, by_more_states, one_more, all_trivial}
+use Rattle.world_model.proofs.Invalid.{garbage_lasts_holds}
 use Rattle.world_model.proofs.Counts.{count-append, count-cons}
 use Rattle.world_model.proofs.Sound.{IsSound, sound, made_living, made_stays, is_new}
 use Rattle.world_model.proofs.Barrier.{IsBarred, barred, lived}
@@ -237,7 +238,7 @@ weak_pointers_holds z lawful history legal = record {
       let q = given.told n other b in
       let same : p.0 ≡ q.0 = all.by_name p.0 q.0 p.1 q.1 (p.2 ∙ sym q.2) in
       sym p.3 ∙ ap (λ (x : Pair). x.weak) same ∙ q.3;
-  own = λ n weak a. let p = given.told n weak a in subst (λ (m : Name). resolved w weak ≡ (if in_world w m then Some m else None)) p.2 (own p.0 weak p.1 p.3 (find (λ q. same_weak weak q.weak) w.pairs) refl);
+  own = λ n weak a. let p = given.told n weak a in subst (λ (m : Name). resolved w weak ≡ (if is_given w m then Some m else None)) p.2 (own p.0 weak p.1 p.3 (find (λ q. same_weak weak q.weak) w.pairs) refl);
   never_given = λ weak never. none weak never (find (λ q. same_weak weak q.weak) w.pairs) refl;
 }
   where
@@ -251,14 +252,14 @@ weak_pointers_holds z lawful history legal = record {
     all = pairs z lawful history legal
 
     gives : Option Pair → Option Name
-    gives o = option_and_then (λ p. if in_world w p.name then Some p.name else None) o
+    gives o = option_and_then (λ p. if is_given w p.name then Some p.name else None) o
 
-    own : (p : Pair) (weak : Weak) → Among w.pairs p → p.weak ≡ weak → (o : Option Pair) → find (λ q. same_weak weak q.weak) w.pairs ≡ o → gives o ≡ (if in_world w p.name then Some p.name else None)
+    own : (p : Pair) (weak : Weak) → Among w.pairs p → p.weak ≡ weak → (o : Option Pair) → find (λ q. same_weak weak q.weak) w.pairs ≡ o → gives o ≡ (if is_given w p.name then Some p.name else None)
     own p weak k same None e = absurd (both_ways _ (find_none (λ q. same_weak weak q.weak) w.pairs e p k) (subst (λ (x : Weak). same_weak weak x ≡ true) (sym same) (same_weak_refl weak)))
     own p weak k same (Some q) e =
         let found = find_some (λ q. same_weak weak q.weak) w.pairs q e in
         let one : q ≡ p = all.by_serial q p found.0 k (ap (λ (x : Weak). x.serial) (sym (same_weak_true weak q.weak found.1) ∙ sym same)) in
-        ap (λ (x : Pair). if in_world w x.name then Some x.name else None) one
+        ap (λ (x : Pair). if is_given w x.name then Some x.name else None) one
 
     none : (weak : Weak) → ((n : Name) → WasGiven history n weak → ⊥) → (o : Option Pair) → find (λ q. same_weak weak q.weak) w.pairs ≡ o → gives o ≡ None
     none weak never None e = refl
@@ -267,10 +268,6 @@ weak_pointers_holds z lawful history legal = record {
         absurd (never q.name (subst (λ (x : Weak). WasGiven history q.name x) (sym (same_weak_true weak q.weak found.1)) (given.known q found.0)))
 
 -- ---- what does not live
-
-pub all_trivial : (entries : List Entry) → AllByRecursion (λ e. Unit {0}) entries
-all_trivial [] = tt
-all_trivial (e ∷ entries) = (tt, all_trivial entries)
 
 -- what has a pair was made
 pair_made : (z : Sizes) (history : List Entry) → Legal z history → (p : Pair) → Among (after history).pairs p → IsMade (after history) p.name
@@ -303,31 +300,36 @@ resolve_gives_holds z lawful history lane pair got legal n =
     let parts = (histories_join.one_more z history (entry (Lane lane) (act.Resolve pair got))).0 legal in
     let h = weak_pointers_holds z lawful history parts.0 in
     let got_is : got ≡ resolved (after history) pair = parts.1.may in (
-      λ e. given_of h (sym got_is ∙ e),
-      λ given. got_is ∙ h.own n pair given.0 ∙ (rw given.1 refl),
+      λ e. given_of (sym got_is ∙ e),
+      λ g. got_is ∙ h.own n pair g.given ∙ (rw (g.lives, g.valid) refl),
     )
   where
-    -- what a pair gives was given it, and lives
-    given_of : WeakPointersHold history → resolved (after history) pair ≡ Some n → WasGiven history n pair × (in_world (after history) n ≡ true)
-    given_of h e = go (find (λ q. same_weak pair q.weak) (after history).pairs) refl e
+    valid : (b : Bool) → not b ≡ true → b ≡ false
+    valid true e = absurd cc
+    valid false e = refl
+
+    -- what a pair gives was given it, lives, and is not garbage
+    given_of : resolved (after history) pair ≡ Some n → Gives history pair n
+    given_of e = go (find (λ q. same_weak pair q.weak) (after history).pairs) refl e
       where
         all : ArePairsGiven history
         all = pairs_given z history ((histories_join.one_more z history (entry (Lane lane) (act.Resolve pair got))).0 legal).0
 
-        one : (q : Pair) → find (λ q. same_weak pair q.weak) (after history).pairs ≡ Some q → (b : Bool) → in_world (after history) q.name ≡ b → (if b then Some q.name else None) ≡ Some n
-            → WasGiven history n pair × (in_world (after history) n ≡ true)
-        one q f true lives e =
+        one : (q : Pair) → find (λ q. same_weak pair q.weak) (after history).pairs ≡ Some q → (b : Bool) → is_given (after history) q.name ≡ b → (if b then Some q.name else None) ≡ Some n → Gives history pair n
+        one q f true is e =
             let found = find_some (λ q. same_weak pair q.weak) (after history).pairs q f in
-            let same : q.name ≡ n = cc in (
-              subst (λ (m : Name). WasGiven history m pair) same (subst (λ (x : Weak). WasGiven history q.name x) (sym (same_weak_true pair q.weak found.1)) (all.known q found.0)),
-              subst (λ (m : Name). in_world (after history) m ≡ true) same lives,
-            )
-        one q f false lives e = absurd cc
+            let same : q.name ≡ n = cc in
+            let both = and_true _ _ (subst (λ (m : Name). is_given (after history) m ≡ true) same is) in
+            record {
+              given = subst (λ (m : Name). WasGiven history m pair) same (subst (λ (x : Weak). WasGiven history q.name x) (sym (same_weak_true pair q.weak found.1)) (all.known q found.0));
+              lives = both.0;
+              valid = valid _ both.1;
+            }
+        one q f false is e = absurd cc
 
-        go : (o : Option Pair) → find (λ q. same_weak pair q.weak) (after history).pairs ≡ o → option_and_then (λ p. if in_world (after history) p.name then Some p.name else None) o ≡ Some n
-            → WasGiven history n pair × (in_world (after history) n ≡ true)
+        go : (o : Option Pair) → find (λ q. same_weak pair q.weak) (after history).pairs ≡ o → option_and_then (λ p. if is_given (after history) p.name then Some p.name else None) o ≡ Some n → Gives history pair n
         go None f e = absurd cc
-        go (Some q) f e = one q f (in_world (after history) q.name) refl e
+        go (Some q) f e = one q f (is_given (after history) q.name) refl e
 
 given_later : (xs ys : List Entry) (n : Name) (weak : Weak) → WasGiven xs n weak → WasGiven (xs ++ ys) n weak
 given_later xs ys n weak h = record { lane = h.lane; given = among_contains _ _ (among_left xs ys _ (contains_among xs _ h.given)) }
@@ -337,7 +339,19 @@ resolve_gives_none_again_holds z lawful before more n pair given out lane got le
     let parts = (histories_join.one_more z (before ++ more) (entry (Lane lane) (act.Resolve pair got))).0 legal in
     let start = ((histories_join.legal z before more).0 parts.0).0 in
     let h = weak_pointers_holds z lawful (before ++ more) parts.0 in
-    let p = (pairs_given z before start).told n pair given in
-    let is_made = subst (λ (m : Name). IsMade (after before) m) p.2 (pair_made z before start p.0 p.1) in
-    let gone = none_comes_back_holds z before more parts.0 n is_made out in
-    parts.1.may ∙ h.own n pair (given_later before more n pair given) ∙ (rw gone refl)
+    parts.1.may ∙ h.own n pair (given_later before more n pair given) ∙ not_given parts.0 start out
+  where
+    not_given : Legal z (before ++ more) → Legal z before → (in_world (after before) n ≡ false) ⊎ ((after before).garbage n ≡ true) → (if is_given (after (before ++ more)) n then Some n else None) ≡ None
+    not_given legal start (inl out) =
+        let p = (pairs_given z before start).told n pair given in
+        let is_made = subst (λ (m : Name). IsMade (after before) m) p.2 (pair_made z before start p.0 p.1) in
+        let gone = none_comes_back_holds z before more legal n is_made out in
+        rw gone refl
+    not_given legal start (inr is) =
+        let still = garbage_lasts_holds z before more legal n is in
+        let none : is_given (after (before ++ more)) n ≡ false = ap (λ (b : Bool). in_world (after (before ++ more)) n && not b) still ∙ and_none (in_world (after (before ++ more)) n) in
+        rw none refl
+      where
+        and_none : (b : Bool) → (b && false) ≡ false
+        and_none true = refl
+        and_none false = refl

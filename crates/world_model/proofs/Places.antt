@@ -11,17 +11,18 @@ use Rattle.world_model.specs.Types.commit
 use Rattle.world_model.specs.Types.sweep
 use Rattle.world_model.specs.CollectorSteps.{SweepMay}
 use Rattle.world_model.specs.Sizes.{Sizes}
-use Rattle.world_model.specs.NameLists.{same_name, has, members, names_from}
+use Rattle.world_model.specs.NameLists.{same_name, has, members, ends_with, but_last, parted, names_from}
 use Rattle.world_model.specs.World.{World, Pair, in_world, made, occupied, drawn, pair_of}
 use Rattle.world_model.specs.State.{State, beginning, is_marked}
-use Rattle.world_model.specs.Next.{next_world, next_by, next, run, lane_of, settled}
+use Rattle.world_model.specs.Next.{next_world, with_loose, next_by, next, run, lane_of, settled}
 use Rattle.world_model.specs.LaneSteps.{DrawsPair}
 use Rattle.world_model.specs.Histories.{MayBy, May, Legal, state_of, after}
 use Rattle.world_model.specs.Follows.{IsMade, is_removed, made_by, freed_by, names_made, names_released, names_released_from, UnitsAreSound, ExactlyOne, EachInOnePlace, QuotasHold, NamesOnce}
-use Rattle.world_model.proofs.ListFacts.{or_true, or_right, Among, among_append, among_filter, among_filter_test, contains_among}
+use Rattle.world_model.proofs.ListFacts.{or_true, or_right, Among, among_append, among_filter, among_filter_test, among_test, contains_among}
 use Rattle.world_model.proofs.NameFacts.{same_name_refl}
 use Rattle.world_model.proofs.Units.{units_apart}
 use Rattle.world_model.proofs.Rounds.{has-members}
+use Rattle.world_model.proofs.Loosening.{ends_some, among_parted, which_part}
 use Rattle.world_model.proofs.Queues.{named_any}
 use Rattle.world_model.proofs.Inductions.{by_entries, by_states, one_more}
 use Rattle.world_model.proofs.Counts.{count-append, count-cons, counted, uncounted, different_from_counts, names_of, count_names, total, next_total}
@@ -301,6 +302,15 @@ some_units z s (Lane lane) (act.Make kinds first) may h u k = go (among_append s
 some_units z s (Marker marker) (act.Make kinds first) may h u k = absurd may.may
 some_units z s Collector (act.Make kinds first) may h u k = absurd may.may
 some_units z s p (act.CommitGc commit.Done) may h u k = h u (among_filter (is_marked s.marks) s.world.units u k)
+some_units z s p (act.Loose of) may h u k = go (among_parted of s.world.units u k)
+  where
+    go : (v : List Name) × Among s.world.units v × Among (parted of v) u → u ≢ []
+    go (v, unit, part) = one (which_part of v u part)
+      where
+        one : ((ends_with of v ≡ true) × ((but_last v ≡ u) ⊎ (of ∷ [] ≡ u))) ⊎ ((ends_with of v ≡ false) × (v ≡ u)) → u ≢ []
+        one (inl (e, inl same)) = λ none. ends_some of v e (same ∙ none)
+        one (inl (e, inr same)) = λ none. let wrong : of ∷ [] ≡ [] = same ∙ none in cc
+        one (inr (e, same)) = λ none. h v unit (same ∙ none)
 some_units z s p (act.BeginGc begin.Started) may h u k = h u k
 some_units z s p _ may h u k = h u k
 
@@ -323,6 +333,17 @@ all_marked z s p (act.Make kinds first) may some h other u k = go (among_append 
         in_new [] e none = absurd (none refl)
         in_new (n ∷ u) e none = or_left _ _ (or_right _ _ (own n (subst (λ (x : List Name). has x n ≡ true) (sym e) (or_left _ _ (same_name_refl n)))))
     go (inr (inr e)) = absurd e
+all_marked z s p (act.Loose of) may some h other u k = lives u (some_units z s p (act.Loose of) may some u k) k
+  where
+    now : List Name
+    now = members (with_loose s.world of).units
+
+    -- what lives counts as marked
+    lives : (u : List Name) → u ≢ [] → Among (with_loose s.world of).units u → list_any (λ n. has s.marks.kept n || has (now ++ s.marks.fresh) n) u ≡ true
+    lives [] none k = absurd (none refl)
+    lives (n ∷ u) none k =
+        let there : has now n ≡ true = has-members (with_loose s.world of).units n ∙ among_test (λ v. has v n) (with_loose s.world of).units (n ∷ u) k (or_left _ _ (same_name_refl n)) in
+        or_left _ _ (or_right (has s.marks.kept n) _ (list_any-append (same_name n) now s.marks.fresh ∙ or_left _ _ there))
 all_marked z s Collector (act.Kept of) may some h other u k = absurd (other may.may.white.marking)
 all_marked z s (Lane lane) (act.Kept of) may some h other u k = absurd (other may.may.white.marking)
 all_marked z s (Marker marker) (act.Kept of) may some h other u k = absurd (other may.may.white.marking)

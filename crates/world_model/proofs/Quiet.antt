@@ -104,6 +104,7 @@ steady_lane z s lane (act.Kept of) may quiet apart h = inr (inl (lane, of, may.f
 steady_lane z s lane act.FrameClose may quiet apart h =
     inr (inr (carry (graph s.world) s.world.opened _ s.marks.fresh s.marks.kept s.marks.moments s.slices s.slices (next_world s.marks s.world (Lane lane) act.FrameClose) _ refl
     (λ m is. h.in_slices m (any_filter _ _ s.world.opened is)) h))
+steady_lane z s lane (act.Loose of) may quiet apart h = inl may.may.unmarked
 steady_lane z s lane act.SliceOpen may quiet apart h = absurd may.may
 steady_lane z s lane (act.Slice budget reply) may quiet apart h = absurd may.may
 steady_lane z s lane (act.BeginGc reply) may quiet apart h = absurd may.may
@@ -166,6 +167,7 @@ steady_next z s Collector (act.FrameOpen phase) may quiet apart h = absurd may.m
 steady_next z s Collector act.FrameClose may quiet apart h = absurd may.may
 steady_next z s Collector act.SliceOpen may quiet apart h = absurd may.may
 steady_next z s Collector (act.Slice budget reply) may quiet apart h = absurd may.may
+steady_next z s Collector (act.Loose of) may quiet apart h = absurd may.may
 steady_next z s Collector (act.Make kinds first) may quiet apart h = absurd cc
 steady_next z s Collector (act.WriteRef at slot to old) may quiet apart h = absurd cc
 steady_next z s Collector (act.Root at on old) may quiet apart h = absurd cc

@@ -9,17 +9,17 @@ use Rattle.world_model.specs.Types.begin
 use Rattle.world_model.specs.Types.commit
 use Rattle.world_model.specs.Types.sweep
 use Rattle.world_model.specs.Sizes.{Sizes}
-use Rattle.world_model.specs.NameLists.{same_name, has, members, names_from, set_at}
+use Rattle.world_model.specs.NameLists.{same_name, has, members, ends_with, but_last, parted, names_from, set_at}
 use Rattle.world_model.specs.CollectorSteps.{Commits, SweepMay}
 use Rattle.world_model.specs.World.{World, Removed, unit_of, in_world}
-use Rattle.world_model.specs.Reach.{graph, IsUnit, IsRoot, IsRootUnit}
+use Rattle.world_model.specs.Reach.{graph, IsUnit, IsRoot, IsRootUnit, IsReached}
 use Rattle.world_model.specs.State.{State, is_marked, white_units}
-use Rattle.world_model.specs.Next.{next_world, next_by, next, run, settled, lane_of}
+use Rattle.world_model.specs.Next.{next_world, with_loose, next_by, next, run, settled, lane_of}
 use Rattle.world_model.specs.Histories.{MayBy, Legal, state_of, after}
 use Rattle.world_model.specs.Calls.{by, Appends}
 use Rattle.world_model.specs.Laws.{started, done}
-use Rattle.world_model.specs.Follows.{HeldLives, NamedLives, BlackRefersToMarked, RootsMarked, NoWhiteReached, StartMarksRoots, RootsStayMarked, CommitRuleFollows, NoneDone, is_done, KeepsOrRemoves, ReachedStay, RemovesUnreached, CommitRemovesUnreached, LivesAfter, made_by}
-use Rattle.world_model.proofs.ListFacts.{or_right, Among, among_append, among_left, among_filter, among_filter_test, filter_among, test_among, among_test, among_contains, contains_among}
+use Rattle.world_model.specs.Follows.{HeldLives, NamedLives, BlackRefersToMarked, RootsMarked, NoWhiteReached, StartMarksRoots, RootsStayMarked, CommitRuleFollows, NoneDone, is_done, IsParted, KeepsOrRemoves, ReachedStay, RemovesUnreached, CommitRemovesUnreached, LivesAfter, made_by}
+use Rattle.world_model.proofs.ListFacts.{or_true, or_right, Among, among_append, among_left, among_filter, among_filter_test, filter_among, test_among, among_test, among_contains, contains_among}
 use Rattle.world_model.proofs.NameFacts.{same_name_refl, found_unit, has_among}
 use Rattle.world_model.proofs.Joins.{histories_join}
 use Rattle.world_model.proofs.Reaches.{reached_unit, reached_passes}
@@ -28,10 +28,11 @@ use Rattle.world_model.proofs.Solo.{state_after}
 use Rattle.world_model.proofs.Collections.{keeps_mark, all_keep}
 use Rattle.world_model.proofs.Progress.{started_world}
 use Rattle.world_model.proofs.Rounds.{named}
+use Rattle.world_model.proofs.Loosening.{ends_splits, lives_loose, parted_among, first_part, last_part, whole_part}
 use Rattle.world_model.proofs.Queues.{named_any, fresh}
 use Rattle.world_model.proofs.Inductions.{one_more, by_more_states}
 use Rattle.world_model.proofs.Sound.{IsSound, sound, not_both}
-use Rattle.world_model.proofs.Barrier.{barred, lived, living_stays, makes_living, own_unit, member_lives, no_grey, roots, sets, marked_more, set_name_here, set_at_here, of_some}
+use Rattle.world_model.proofs.Barrier.{barred, lived, living_stays, makes_living, own_unit, member_lives, no_grey, roots, sets, loosens_may, marked_more, set_name_here, set_at_here, of_some}
 
 -- ---- what is held and named
 
@@ -104,6 +105,7 @@ roots_next z s p (act.SetStrong number to old) may apart marking other h = λ u 
         (λ l i e. h u unit (n, k, inr (l, i, e))) l i e
 roots_next z s p (act.BeginGc begin.Started) may apart marking other h = absurd (let idle = starts_may z s p may in let wrong : Idle ≡ Marking = sym idle ∙ marking in cc)
 roots_next z s p (act.CommitGc commit.Done) may apart marking other h = absurd cc
+roots_next z s p (act.Loose of) may apart marking other h = absurd ((loosens_may z s p of may).2.unmarked marking)
 roots_next z s p _ may apart marking other h = λ u unit root. h u unit root
 
 pub still_marking : (z : Sizes) (s : State) (p : Pass) (a : Act) → MayBy z s p a → s.world.phase ≡ Marking → is_done a ≡ false → (next_world s.marks s.world p a).phase ≡ Marking
@@ -162,28 +164,67 @@ commit_rule_follows_holds z old new during h legal none black u white reached =
 
 -- ---- removal
 
+-- the parts of that which a case tells
+record Tells (before now : World) (e : Entry) : Type 0 where
+  pub reached_stay : (u : List Name) → IsReached (graph before) u → IsUnit (graph now) u ⊎ IsParted now e u
+  pub others : (u : List Name) → IsUnit (graph before) u → IsUnit (graph now) u ⊎ IsParted now e u ⊎ ((e ≡ done) × Contains now.last_removed u)
+
+-- the members of a unit that stays, or is parted, live
+keeps_or_removes : (before now : World) (e : Entry) → Tells before now e → KeepsOrRemoves before now e
+keeps_or_removes before now e h = record { reached_stay = h.reached_stay; reached_live = λ u n reached k. live u n k (h.reached_stay u reached); others = h.others }
+  where
+    live : (u : List Name) (n : Name) → has u n ≡ true → IsUnit (graph now) u ⊎ IsParted now e u → in_world now n ≡ true
+    live u n k (inl unit) = member_lives now u n (contains_among _ u unit) k
+    live u n k (inr p) = go (or_true (has p.left n) _ (sym (list_any-append (same_name n) p.left (p.of ∷ [])) ∙ ap (λ (v : List Name). has v n) (sym p.was) ∙ k))
+      where
+        go : (has p.left n ≡ true) ⊎ (has (p.of ∷ []) n ≡ true) → in_world now n ≡ true
+        go (inl a) = member_lives now p.left n (contains_among _ p.left p.rest) a
+        go (inr b) = member_lives now (p.of ∷ []) n (contains_among _ (p.of ∷ []) p.alone) b
+
 pub removal : (z : Sizes) (s : State) (p : Pass) (a : Act) → MayBy z s p a → KeepsOrRemoves s.world (next_world s.marks s.world p a) (record { pass = p; act = a })
-removal z s Collector (act.CommitGc commit.Done) may = record {
+removal z s Collector (act.CommitGc commit.Done) may = keeps_or_removes s.world (next_world s.marks s.world Collector done.act) done record {
   reached_stay = λ u reached.
       let unit = reached_unit (graph s.world) u reached in
-      among_contains _ u (filter_among (is_marked s.marks) s.world.units u (contains_among _ u unit) (true_from_ne_false _ (λ white. may.may.unreached u unit white reached)));
+      inl (among_contains _ u (filter_among (is_marked s.marks) s.world.units u (contains_among _ u unit) (true_from_ne_false _ (λ white. may.may.unreached u unit white reached))));
   others = λ u unit. go u unit (is_marked s.marks u) refl;
 }
   where
-    go : (u : List Name) → IsUnit (graph s.world) u → (b : Bool) → is_marked s.marks u ≡ b → Contains (filter (is_marked s.marks) s.world.units) u ⊎ ((done ≡ done) × Contains (white_units s.marks s.world) u)
+    go : (u : List Name) → IsUnit (graph s.world) u → (b : Bool) → is_marked s.marks u ≡ b
+        → Contains (filter (is_marked s.marks) s.world.units) u ⊎ IsParted (next_world s.marks s.world Collector done.act) done u ⊎ ((done ≡ done) × Contains (white_units s.marks s.world) u)
     go u unit true e = inl (among_contains _ u (filter_among (is_marked s.marks) s.world.units u (contains_among _ u unit) e))
-    go u unit false e = inr (refl, among_contains _ u (filter_among (λ u. not (is_marked s.marks u)) s.world.units u (contains_among _ u unit) (rw e refl)))
+    go u unit false e = inr (inr (refl, among_contains _ u (filter_among (λ u. not (is_marked s.marks u)) s.world.units u (contains_among _ u unit) (rw e refl))))
 removal z s (Lane lane) (act.CommitGc commit.Done) may = absurd may.may
 removal z s (Marker marker) (act.CommitGc commit.Done) may = absurd may.may
-removal z s p (act.Make kinds first) may = record {
-  reached_stay = λ u reached. stays u (reached_unit (graph s.world) u reached);
+removal z s p (act.Make kinds first) may = keeps_or_removes s.world (next_world s.marks s.world p (act.Make kinds first)) _ record {
+  reached_stay = λ u reached. inl (stays u (reached_unit (graph s.world) u reached));
   others = λ u unit. inl (stays u unit);
 }
   where
     stays : (u : List Name) → IsUnit (graph s.world) u → Contains (s.world.units ++ names_from (lane_of p) first kinds ∷ []) u
     stays u unit = among_contains _ u (among_left s.world.units _ u (contains_among _ u unit))
-removal z s p (act.BeginGc begin.Started) may = record { reached_stay = λ u reached. reached_unit (graph s.world) u reached; others = λ u unit. inl unit }
-removal z s p _ may = record { reached_stay = λ u reached. reached_unit (graph s.world) u reached; others = λ u unit. inl unit }
+removal z s p (act.Loose of) may = keeps_or_removes s.world (with_loose s.world of) _ record {
+  reached_stay = λ u reached. go u (reached_unit (graph s.world) u reached) (ends_with of u) refl;
+  others = λ u unit. pick u (go u unit (ends_with of u) refl);
+}
+  where
+    now : World
+    now = with_loose s.world of
+
+    e : Entry
+    e = record { pass = p; act = act.Loose of }
+
+    part : (u v : List Name) → IsUnit (graph s.world) u → Among (parted of u) v → IsUnit (graph now) v
+    part u v unit k = among_contains _ v (parted_among of s.world.units u v (contains_among _ u unit) k)
+
+    go : (u : List Name) → IsUnit (graph s.world) u → (b : Bool) → ends_with of u ≡ b → IsUnit (graph now) u ⊎ IsParted now e u
+    go u unit false out = inl (part u u unit (whole_part of u out))
+    go u unit true is = inr (record { of = of; left = but_last u; by = refl; was = ends_splits of u is; rest = part u (but_last u) unit (first_part of u is); alone = part u (of ∷ []) unit (last_part of u is) })
+
+    pick : (u : List Name) → IsUnit (graph now) u ⊎ IsParted now e u → IsUnit (graph now) u ⊎ IsParted now e u ⊎ ((e ≡ done) × Contains now.last_removed u)
+    pick u (inl stays) = inl stays
+    pick u (inr parts) = inr (inl parts)
+removal z s p (act.BeginGc begin.Started) may = keeps_or_removes s.world (next_world s.marks s.world p (act.BeginGc begin.Started)) _ record { reached_stay = λ u reached. inl (reached_unit (graph s.world) u reached); others = λ u unit. inl unit }
+removal z s p a may = keeps_or_removes s.world (next_world s.marks s.world p a) _ record { reached_stay = λ u reached. inl (reached_unit (graph s.world) u reached); others = λ u unit. inl unit }
 
 pub reached_stay_holds : ReachedStay
 reached_stay_holds z history e legal =
@@ -241,6 +282,11 @@ lives_next z s p (act.CommitGc commit.Done) may apart n = (λ lives. inr (before
     now (inl e) = absurd cc
     now (inr old) = let unit = found_unit s.world.units n old.0 in
         among_test (λ u. has u n) (filter (is_marked s.marks) s.world.units) (unit_of s.world n) (filter_among (is_marked s.marks) s.world.units (unit_of s.world n) unit.0 (old.1 refl)) unit.1
+lives_next z s p (act.Loose of) may apart n = (λ lives. inr (sym (lives_loose s.world of n) ∙ lives, λ e. absurd cc), λ h. of_old h)
+  where
+    of_old : (has [] n ≡ true) ⊎ ((in_world s.world n ≡ true) × (false ≡ true → is_marked s.marks (unit_of s.world n) ≡ true)) → in_world (with_loose s.world of) n ≡ true
+    of_old (inl e) = absurd cc
+    of_old (inr old) = lives_loose s.world of n ∙ old.0
 lives_next z s p (act.BeginGc begin.Started) may apart n = (λ lives. inr (lives, λ e. absurd cc), λ h. of_old h)
   where
     of_old : (has [] n ≡ true) ⊎ ((in_world s.world n ≡ true) × (false ≡ true → is_marked s.marks (unit_of s.world n) ≡ true)) → in_world s.world n ≡ true

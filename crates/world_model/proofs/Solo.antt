@@ -78,6 +78,10 @@ kept_opens_none : (of : List Name) → list_any opens_slice (map act.Kept of) �
 kept_opens_none [] = refl
 kept_opens_none (n ∷ of) = kept_opens_none of
 
+loose_open_none : (of : List Name) (last : Act) → opens_slice last ≡ false → list_any opens_slice (map act.Loose of ++ last ∷ []) ≡ false
+loose_open_none [] last e = rw e refl
+loose_open_none (n ∷ of) last e = loose_open_none of last e
+
 parts_open_none : (parts : List Act) (last : Act) → opens_slice last ≡ false → list_all is_purge_part parts ≡ true → list_any opens_slice (parts ++ last ∷ []) ≡ false
 parts_open_none [] last e all = rw e refl
 parts_open_none (a ∷ parts) last e all = let both = and_true _ _ all in no_part a (parts_open_none parts last e both.1) both.0
@@ -128,6 +132,9 @@ call_closed z s (Marker marker) (act.Slice budget reply) acts call legal none = 
 call_closed z s p (act.CommitGc reply) acts call legal none = closed_run z s p acts legal (one_opens_none _ acts refl call.are) none
 call_closed z s p (act.PurgeGc budget reply) acts call legal none =
     closed_run z s p acts legal (subst (λ (xs : List Act). list_any opens_slice xs ≡ false) (sym call.are) (parts_open_none call.parts _ refl call.only)) none
+call_closed z s (Lane lane) (act.Dissolve at count) acts call legal none =
+    closed_run z s (Lane lane) acts legal (subst (λ (xs : List Act). list_any opens_slice xs ≡ false) (sym call.are) (loose_open_none call.of _ refl)) none
+call_closed z s p (act.Loose of) acts call legal none = absurd call
 call_closed z s p act.SliceOpen acts call legal none = absurd call
 call_closed z s p (act.Kept of) acts call legal none = absurd call
 call_closed z s p (act.Scanned of) acts call legal none = absurd call

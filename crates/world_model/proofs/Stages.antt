@@ -23,6 +23,7 @@ use Rattle.world_model.proofs.Inductions.{by_entries, by_states, one_more}
 use Rattle.world_model.proofs.Counts.{count-append, count-cons, names_new, names_of, names_filter}
 use Rattle.world_model.proofs.Destroying.{named_kept, released_unit, left_after, among_new}
 use Rattle.world_model.proofs.Sound.{IsSound, sound, next_sound, not_both, made_removed, made_stays, was_made, is_new, begins_may, finishes_may, releases_may, commits_may}
+use Rattle.world_model.proofs.Loosening.{lives_loose}
 use Rattle.world_model.proofs.Barrier.{lived}
 
 -- begun and finished so often
@@ -238,6 +239,7 @@ next_staged z s p (act.Asked of poll answer) n b f may known h =
     stays s.world (polled s.world of poll) n b f (b + 0) (f + 0) (λ m. m) (λ m. m) refl (named_kept of (λ r. record r { polls = poll }) (λ r. refl) s.world.removals n)
     (λ stage. is_at-polled s.world of poll stage n) (plus_none b) (plus_none f) h
 next_staged z s p (act.Released of) n b f may known h = staged_released z s p of n b f may known h
+next_staged z s p (act.Loose of) n b f may known h = stays s.world _ n b f (b + 0) (f + 0) (λ m. m) (λ m. m) (lives_loose s.world of n) refl (λ stage. refl) (plus_none b) (plus_none f) h
 next_staged z s p (act.BeginGc begin.Started) n b f may known h = stays s.world _ n b f (b + 0) (f + 0) (λ m. m) (λ m. m) refl refl (λ stage. refl) (plus_none b) (plus_none f) h
 next_staged z s p a n b f may known h = stays s.world _ n b f _ _ (λ m. m) (λ m. m) refl refl (λ stage. refl) (plus_none b) (plus_none f) h
 

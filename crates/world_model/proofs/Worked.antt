@@ -13,16 +13,16 @@ pub made_one_legal : Legal level made_one
 made_one_legal = (
   record { in_range = lit< tt; frame = refl; may = refl },
   (
-    record { in_range = lit< tt; frame = record { opened = refl; continues = tt }; may = record { some = lit≤ tt; few = lit≤ tt; lawful = refl; next = refl; names = lit≤ tt; room = lit≤ tt } },
+    record { in_range = lit< tt; frame = record { opened = refl; continues = tt; parts = tt }; may = record { some = lit≤ tt; few = lit≤ tt; lawful = refl; next = refl; names = lit≤ tt; room = lit≤ tt } },
     tt,
   ),
 )
 
 pub rooted_one_legal : Legal level rooted_one
 rooted_one_legal = legal_join level beginning made_one (drop 2 rooted_one) made_one_legal (
-  record { in_range = lit< tt; frame = record { opened = refl; continues = tt }; may = record { held = refl; was = refl; shaded = λ on marking. absurd cc } },
+  record { in_range = lit< tt; frame = record { opened = refl; continues = tt; parts = tt }; may = record { held = refl; was = refl; shaded = λ on marking. absurd cc } },
   (
-    record { in_range = lit< tt; frame = record { opened = refl; continues = tt }; may = tt },
+    record { in_range = lit< tt; frame = record { opened = refl; continues = tt; parts = tt }; may = tt },
     (
       record { finishes = refl; may = (record { idle = refl; released = refl }, refl) },
       tt,

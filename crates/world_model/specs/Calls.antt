@@ -1,7 +1,7 @@
 -- Solo calls: the entries of one call while nothing else runs.
 use Rattle.std.specs.Prelude.{◌≡◌, ◌≢◌, ◌↔◌, ℕ, ◌<◌, Bool, true, false, ◌⊎◌, List, [], ◌∷◌, ◌++◌, map, count_by, IsTrue}
 use Rattle.std.specs.List.{list_any, list_all, flat_map, AllByRecursion}
-use Rattle.world_model.specs.Types.{Name, Marked, Commit, Purged, Marking, Pass, Marker, Collector, Act, Entry}
+use Rattle.world_model.specs.Types.{Name, Marked, Commit, Purged, Marking, Pass, Lane, Marker, Collector, Act, Entry}
 use Rattle.world_model.specs.Types.act
 use Rattle.world_model.specs.Types.begin
 use Rattle.world_model.specs.Types.commit
@@ -80,6 +80,12 @@ pub record PurgesAlone (budget : ℕ) (reply : Purged) (acts : List Act) : Type 
   pub only : IsTrue (list_all is_purge_part parts)
   pub counted : steps_of reply ≡ count_by is_purge_step parts
 
+-- a lane that is not in the midst of that takes a unit apart: notes of the members that leave it, and then the answer
+pub record DissolvesAlone (s : State) (lane : ℕ) (at : Name) (count : ℕ) (acts : List Act) : Type 0 where
+  pub whole : (s.frames lane).broken ≡ []
+  pub of : List Name
+  pub are : acts ≡ map act.Loose of ++ act.Dissolve at count ∷ []
+
 -- What a pass does in one call that this act closes, from a state, while nothing else runs. A note or a step of destruction closes none.
 abbrev pub CallOf : State → Pass → Act → List Act → Type 0
 CallOf s p (act.WriteRef at slot to old) acts = StoresAlone (act.WriteRef at slot to old) acts
@@ -89,6 +95,7 @@ CallOf s p (act.BeginGc begin.Started) acts = MarksRoots s.world (act.BeginGc be
 CallOf s (Marker marker) (act.Slice budget reply) acts = SlicesAlone s marker budget reply acts
 CallOf s p (act.CommitGc reply) acts = CommitsAlone s reply acts
 CallOf s p (act.PurgeGc budget reply) acts = PurgesAlone budget reply acts
+CallOf s (Lane lane) (act.Dissolve at count) acts = DissolvesAlone s lane at count acts
 CallOf s p act.SliceOpen acts = ⊥
 CallOf s p (act.Kept of) acts = ⊥
 CallOf s p (act.Scanned of) acts = ⊥
@@ -96,6 +103,7 @@ CallOf s p (act.Begun of) acts = ⊥
 CallOf s p (act.Asked of poll answer) acts = ⊥
 CallOf s p (act.Finished of) acts = ⊥
 CallOf s p (act.Released of) acts = ⊥
+CallOf s p (act.Loose of) acts = ⊥
 CallOf s p a acts = acts ≡ a ∷ []
 
 -- A solo call: the history grows by the entries of one call that this act closes, and is still legal.

@@ -7,13 +7,13 @@ use Rattle.world_model.specs.Types.act
 use Rattle.world_model.specs.Types.begin
 use Rattle.world_model.specs.Types.commit
 use Rattle.world_model.specs.Sizes.{Sizes, IsLawful}
-use Rattle.world_model.specs.NameLists.{same_name, same_pass, has, all_different, members, begins_with, names_from}
-use Rattle.world_model.specs.World.{World, Pair, Removed, Begun, Finished, unit_of, in_world, is_open, made, occupied, free, resolved, drawn, is_at}
+use Rattle.world_model.specs.NameLists.{same_name, same_pass, has, all_different, members, begins_with, ends_with, parted, names_from}
+use Rattle.world_model.specs.World.{World, Pair, Removed, Begun, Finished, unit_of, in_world, is_given, is_open, made, occupied, free, resolved, drawn, is_at}
 use Rattle.world_model.specs.Reach.{Graph, graph, IsUnit, Refers, IsRootUnit, Walk, IsReached}
 use Rattle.world_model.specs.State.{State, beginning, Holds, IsMarked, is_marked, is_grey, grey_units}
 use Rattle.world_model.specs.Next.{lane_of, given, next}
 use Rattle.world_model.specs.Histories.{state_of, after, Legal}
-use Rattle.world_model.specs.Calls.{Appends}
+use Rattle.world_model.specs.Calls.{Appends, Collects}
 use Rattle.world_model.specs.Laws.{started, done}
 
 -- ---- words
@@ -53,6 +53,20 @@ made_by p _ = []
 abbrev pub names_made : List Entry → List Name
 names_made history = flat_map (λ e. made_by e.pass e.act) history
 
+-- the entry takes the last member out of this unit
+abbrev pub loosens : Act → List Name → Bool
+loosens (act.Loose of) u = ends_with of u
+loosens _ u = false
+
+-- the units into which an entry parts one: what is left of it, and the member that leaves it
+abbrev pub parts_by : World → Act → List (List Name)
+parts_by w (act.Loose of) = parted of (unit_of w of)
+parts_by w _ = []
+
+-- none of these entries takes the last member out of this unit
+abbrev pub NoneLoosens : List Name → List Entry → Type 0
+NoneLoosens u entries = AllByRecursion (λ e. loosens e.act u ≡ false) entries
+
 -- the removed objects that an entry releases
 abbrev pub freed_by : World → Act → List Name
 freed_by w (act.Released of) = map (λ r. r.name) (filter (λ r. has (members (filter (begins_with of) w.last_removed)) r.name) w.removals)
@@ -79,6 +93,10 @@ GivenIsHeld = (z : Sizes) (history : List Entry) (lane : ℕ) (a : Act) → Lega
     → Holds (state_of (history ++ entry (Lane lane) a ∷ [])) lane n
     × ((m : Name) → IsTrue (has (unit_of (after (history ++ entry (Lane lane) a ∷ [])) n) m) → Holds (state_of (history ++ entry (Lane lane) a ∷ [])) lane m)
 
+-- And what it holds it holds with all members of its unit.
+abbrev pub HeldWithUnit : Type 0
+HeldWithUnit = (z : Sizes) (history : List Entry) → Legal z history → (lane : ℕ) (n m : Name) → Holds (state_of history) lane n → IsTrue (has (unit_of (after history) n) m) → Holds (state_of history) lane m
+
 -- what a cell of an object that lives names, what is rooted, and what a strong pointer names lives
 pub record NamesLive (w : World) : Type 0 where
   pub cells : (at : Name) (slot : ℕ) (n : Name) → IsTrue (in_world w at) → w.cell at slot ≡ Some n → IsTrue (in_world w n)
@@ -93,10 +111,16 @@ abbrev pub LivesAfter : Type 0
 LivesAfter = (z : Sizes) (history : List Entry) (e : Entry) → Legal z (history ++ e ∷ []) → (n : Name) → IsTrue (in_world (after (history ++ e ∷ [])) n)
     ↔ (IsTrue (has (made_by e.pass e.act) n) ⊎ (IsTrue (in_world (after history) n) × (IsTrue (is_done e.act) → IsMarked (state_of history) n)))
 
--- After an entry the units are the one that it makes, if it makes one, and those before it; after a commit, of these, the marked ones.
+-- a unit that stands before an entry stands after it too: it loses no member, and where the entry is a commit it is marked
+pub record StaysBy (s : State) (a : Act) (u : List Name) : Type 0 where
+  pub unit : IsUnit (graph s.world) u
+  pub whole : loosens a u ≡ false
+  pub marked : IsTrue (is_done a) → IsTrue (is_marked s.marks u)
+
+-- After an entry the units are the one that it makes, if it makes one; the two into which it parts one, if it does; and those before it that lose no member, after a commit the marked ones of these.
 abbrev pub UnitsAfter : Type 0
 UnitsAfter = (z : Sizes) (history : List Entry) (e : Entry) → Legal z (history ++ e ∷ []) → (u : List Name) → IsUnit (graph (after (history ++ e ∷ []))) u
-    ↔ (((made_by e.pass e.act ≢ []) × (u ≡ made_by e.pass e.act)) ⊎ (IsUnit (graph (after history)) u × (IsTrue (is_done e.act) → IsTrue (is_marked (state_of history).marks u))))
+    ↔ (((made_by e.pass e.act ≢ []) × (u ≡ made_by e.pass e.act)) ⊎ Contains (parts_by (after history) e.act) u ⊎ StaysBy (state_of history) e.act u)
 
 -- After an entry there are removed, after a commit, the objects of the units that were not marked, and those that were removed and that it does not release.
 abbrev pub RemovedAfter : Type 0
@@ -108,10 +132,20 @@ RemovedAfter = (z : Sizes) (history : List Entry) (e : Entry) → Legal z (histo
 abbrev pub NoneComesBack : Type 0
 NoneComesBack = (z : Sizes) (before more : List Entry) → Legal z (before ++ more) → (n : Name) → IsMade (after before) n → in_world (after before) n ≡ false → in_world (after (before ++ more)) n ≡ false
 
--- As long as an object lives it stays in its unit.
+-- As long as an object lives and no member is taken out of its unit it stays in that unit.
 abbrev pub UnitStays : Type 0
 UnitStays = (z : Sizes) (before more : List Entry) → Legal z (before ++ more) → (n : Name) → IsTrue (in_world (after before) n) → IsTrue (in_world (after (before ++ more)) n)
-    → unit_of (after (before ++ more)) n ≡ unit_of (after before) n
+    → NoneLoosens (unit_of (after before) n) more → unit_of (after (before ++ more)) n ≡ unit_of (after before) n
+
+-- Units never grow and are never joined: what stands in one unit stood in one, if it lived.
+abbrev pub UnitsNeverJoin : Type 0
+UnitsNeverJoin = (z : Sizes) (before more : List Entry) → Legal z (before ++ more) → (n m : Name) → IsTrue (in_world (after before) n)
+    → IsTrue (has (unit_of (after (before ++ more)) n) m) → IsTrue (has (unit_of (after before) n) m)
+
+-- A lane alone takes the units apart that it made: while others act, an object of the lane that lives stays in its unit.
+abbrev pub OwnUnitsStay : Type 0
+OwnUnitsStay = (z : Sizes) (before during : List Entry) (n : Name) → Legal z (before ++ during) → AllByRecursion (λ e. e.pass ≢ Lane n.lane) during
+    → IsTrue (in_world (after before) n) → IsTrue (in_world (after (before ++ during)) n) → unit_of (after (before ++ during)) n ≡ unit_of (after before) n
 
 -- a name stands in one unit, and once; each unit has a member; and outside marking each unit counts as marked
 pub record AreUnits (s : State) : Type 0 where
@@ -168,10 +202,20 @@ CommitRuleFollows = (z : Sizes) (old new during : List Entry) → Appends z old 
 
 -- ---- removal
 
--- what an entry removes: units that are reached stay, and any other one goes whole and by a commit alone, to the removed ones
+-- the entry takes the last member out of this unit: what is left of it and that member are units now
+pub record IsParted (now : World) (e : Entry) (u : List Name) : Type 0 where
+  pub of : Name
+  pub left : List Name
+  pub by : e.act ≡ act.Loose of
+  pub was : u ≡ left ++ of ∷ []
+  pub rest : IsUnit (graph now) left
+  pub alone : IsUnit (graph now) (of ∷ [])
+
+-- what an entry removes: a unit that is reached stays, or is parted in two that stay, so each of its members lives on; and any other one does so too, or goes whole and by a commit alone to the removed ones
 pub record KeepsOrRemoves (before now : World) (e : Entry) : Type 0 where
-  pub reached_stay : (u : List Name) → IsReached (graph before) u → IsUnit (graph now) u
-  pub others : (u : List Name) → IsUnit (graph before) u → IsUnit (graph now) u ⊎ ((e ≡ done) × Contains now.last_removed u)
+  pub reached_stay : (u : List Name) → IsReached (graph before) u → IsUnit (graph now) u ⊎ IsParted now e u
+  pub reached_live : (u : List Name) (n : Name) → IsReached (graph before) u → IsTrue (has u n) → IsTrue (in_world now n)
+  pub others : (u : List Name) → IsUnit (graph before) u → IsUnit (graph now) u ⊎ IsParted now e u ⊎ ((e ≡ done) × Contains now.last_removed u)
 
 abbrev pub ReachedStay : Type 0
 ReachedStay = (z : Sizes) (history : List Entry) (e : Entry) → Legal z (history ++ e ∷ []) → KeepsOrRemoves (after history) (after (history ++ e ∷ [])) e
@@ -292,25 +336,104 @@ pub record WasGiven (history : List Entry) (n : Name) (pair : Weak) : Type 0 whe
   pub lane : ℕ
   pub given : Contains history (entry (Lane lane) (act.WeakOf n pair))
 
--- a pair is one object's, and an object has one pair; it gives its object exactly while that lives, and a pair that was never given gives none
+-- a pair is one object's, and an object has one pair; it gives its object exactly while that lives and is not garbage, and a pair that was never given gives none
 pub record WeakPointersHold (history : List Entry) : Type 0 where
   pub one_object : (n m : Name) (pair : Weak) → WasGiven history n pair → WasGiven history m pair → n ≡ m
   pub one_pair : (n : Name) (pair other : Weak) → WasGiven history n pair → WasGiven history n other → pair ≡ other
-  pub own : (n : Name) (pair : Weak) → WasGiven history n pair → resolved (after history) pair ≡ (if in_world (after history) n then Some n else None)
+  pub own : (n : Name) (pair : Weak) → WasGiven history n pair → resolved (after history) pair ≡ (if is_given (after history) n then Some n else None)
   pub never_given : (pair : Weak) → ((n : Name) → WasGiven history n pair → ⊥) → resolved (after history) pair ≡ None
 
 abbrev pub WeakPointers : Type 0
 WeakPointers = (z : Sizes) → IsLawful z → (history : List Entry) → Legal z history → WeakPointersHold history
 
--- A Resolve gives an object exactly where the pair was given for it and it lives.
+-- a weak pointer gives an object: it was given for that, which lives and is not garbage
+pub record Gives (history : List Entry) (pair : Weak) (n : Name) : Type 0 where
+  pub given : WasGiven history n pair
+  pub lives : IsTrue (in_world (after history) n)
+  pub valid : (after history).garbage n ≡ false
+
+-- A Resolve gives an object exactly where the pair was given for it, and it lives and is not garbage.
 abbrev pub ResolveGives : Type 0
 ResolveGives = (z : Sizes) → IsLawful z → (history : List Entry) (lane : ℕ) (pair : Weak) (got : Option Name) → Legal z (history ++ entry (Lane lane) (act.Resolve pair got) ∷ [])
-    → (n : Name) → (got ≡ Some n) ↔ (WasGiven history n pair × IsTrue (in_world (after history) n))
+    → (n : Name) → (got ≡ Some n) ↔ Gives history pair n
 
--- And after its removal, never again.
+-- And after its removal, or after it was marked as garbage, never again.
 abbrev pub ResolveGivesNoneAgain : Type 0
-ResolveGivesNoneAgain = (z : Sizes) → IsLawful z → (before more : List Entry) (n : Name) (pair : Weak) → WasGiven before n pair → in_world (after before) n ≡ false
+ResolveGivesNoneAgain = (z : Sizes) → IsLawful z → (before more : List Entry) (n : Name) (pair : Weak) → WasGiven before n pair → (in_world (after before) n ≡ false) ⊎ IsTrue ((after before).garbage n)
     → (lane : ℕ) (got : Option Name) → Legal z ((before ++ more) ++ entry (Lane lane) (act.Resolve pair got) ∷ []) → got ≡ None
+
+-- ---- garbage
+
+-- a lane has marked the object as garbage
+pub record WasMarkedGarbage (history : List Entry) (n : Name) : Type 0 where
+  pub lane : ℕ
+  pub old : Bool
+  pub told : Contains history (entry (Lane lane) (act.MarkGarbage n old))
+
+-- an object is garbage exactly where a lane has marked it so; so an object is never garbage when it is made, whatever index it gets
+pub record GarbageIs (history : List Entry) (n : Name) : Type 0 where
+  pub marked : IsTrue ((after history).garbage n) ↔ WasMarkedGarbage history n
+  pub made : IsTrue ((after history).garbage n) → IsMade (after history) n
+
+abbrev pub GarbageIsMarked : Type 0
+GarbageIsMarked = (z : Sizes) (history : List Entry) → Legal z history → (n : Name) → GarbageIs history n
+
+-- What is garbage stays so.
+abbrev pub GarbageLasts : Type 0
+GarbageLasts = (z : Sizes) (before more : List Entry) → Legal z (before ++ more) → (n : Name) → IsTrue ((after before).garbage n) → IsTrue ((after (before ++ more)).garbage n)
+
+-- ---- taking a unit apart
+
+-- the objects of some unit of so many members, this one among them, are units by themselves
+pub record IsTakenApart (w : World) (at : Name) (count : ℕ) : Type 0 where
+  pub unit : List Name
+  pub member : IsTrue (has unit at)
+  pub count_is : count ≡ length unit
+  pub alone : (n : Name) → IsTrue (has unit n) → IsUnit (graph w) (n ∷ [])
+
+-- When a lane says that it has taken a unit apart, each of its members is a unit by itself, whatever others did meanwhile.
+abbrev pub TakenApart : Type 0
+TakenApart = (z : Sizes) (history : List Entry) (lane : ℕ) (at : Name) (count : ℕ) → Legal z (history ++ entry (Lane lane) (act.Dissolve at count) ∷ []) → IsTakenApart (after history) at count
+
+-- the unit of an object was taken apart: each of its members is a unit by itself, and the other units stay
+pub record IsDissolved (before now : World) (at : Name) (count : ℕ) : Type 0 where
+  pub count_is : count ≡ length (unit_of before at)
+  pub alone : (n : Name) → IsTrue (has (unit_of before at) n) → (unit_of now n ≡ n ∷ []) × IsUnit (graph now) (n ∷ [])
+  pub others : (u : List Name) → IsUnit (graph before) u → has u at ≡ false → IsUnit (graph now) u
+
+-- In a solo call that is the unit in which the object stood.
+abbrev pub DissolvesUnit : Type 0
+DissolvesUnit = (z : Sizes) (old new : List Entry) (lane : ℕ) (at : Name) (count : ℕ) → Appends z old new (Lane lane) (act.Dissolve at count) → IsDissolved (after old) (after new) at count
+
+-- a lane may ask for the unit of an object to be taken apart: it holds the object, which is its own, and no call of it is under way
+pub record MayAsk (s : State) (lane : ℕ) (at : Name) : Type 0 where
+  pub held : Holds s lane at
+  pub own : at.lane ≡ lane
+  pub none_owed : (s.frames lane).owed ≡ None
+  pub none_broken : (s.frames lane).broken ≡ []
+
+-- some call closes with this act
+pub record CanAppend (z : Sizes) (old : List Entry) (p : Pass) (a : Act) : Type 0 where
+  pub new : List Entry
+  pub call : Appends z old new p a
+
+-- It is never refused but while a collection marks: outside marking some solo call takes the unit apart, and in it one is refused.
+pub record Answers (z : Sizes) (history : List Entry) (lane : ℕ) (at : Name) : Type 0 where
+  pub apart : (after history).phase ≢ Marking → CanAppend z history (Lane lane) (act.Dissolve at (length (unit_of (after history) at)))
+  pub refused : (after history).phase ≡ Marking → CanAppend z history (Lane lane) (act.NoDissolve at)
+
+abbrev pub DissolveAnswers : Type 0
+DissolveAnswers = (z : Sizes) (history : List Entry) (lane : ℕ) (at : Name) → Legal z history → lane < z.lanes → MayAsk (state_of history) lane at → Answers z history lane at
+
+-- An object that is a unit by itself is one as long as it lives.
+abbrev pub StaysAlone : Type 0
+StaysAlone = (z : Sizes) (before more : List Entry) → Legal z (before ++ more) → (n : Name) → unit_of (after before) n ≡ n ∷ [] → IsTrue (in_world (after (before ++ more)) n)
+    → unit_of (after (before ++ more)) n ≡ n ∷ []
+
+-- So when a unit was taken apart, a whole collection keeps those of its members that are reached each by itself, and no others.
+abbrev pub CollectedSingly : Type 0
+CollectedSingly = (z : Sizes) (old mid more new : List Entry) (lane : ℕ) (at : Name) (count budget : ℕ) → Appends z old mid (Lane lane) (act.Dissolve at count) → Collects z (mid ++ more) new budget
+    → (n : Name) → IsTrue (has (unit_of (after old) at) n) → IsTrue (in_world (after (mid ++ more)) n) → IsTrue (in_world (after new) n) ↔ IsReached (graph (after (mid ++ more))) (n ∷ [])
 
 -- ---- frames
 
@@ -322,14 +445,14 @@ PhaseStays old new = (new ≡ old) ⊎ ((old ≡ Gathering) × (new ≡ Idle))
 abbrev pub Closes : Pass → Entry → Type 0
 Closes p e = (e.pass ≡ p) × ((e.act ≡ act.FrameClose) ⊎ ((budget : ℕ) × (reply : Marked) × (e.act ≡ act.Slice budget reply)))
 
--- what stays while a frame or slice is open: no collection starts and none commits, the phase stays but for the end of gathering, and each object that lives stays so, in its unit
+-- what stays while a frame or slice is open: no collection starts and none commits, the phase stays but for the end of gathering, and each object that lives stays so, in its unit as long as no member is taken out of that
 pub record IsKeptOpen (p : Pass) (before now : World) (during : List Entry) : Type 0 where
   pub opened : IsTrue (is_open now p)
   pub starts : count_by (λ e. is_start e.act) during ≡ 0
   pub commits : count_by (λ e. is_done e.act) during ≡ 0
   pub phase : PhaseStays before.phase now.phase
   pub lives : (n : Name) → IsTrue (in_world before n) → IsTrue (in_world now n)
-  pub units : (n : Name) → IsTrue (in_world before n) → unit_of now n ≡ unit_of before n
+  pub units : (n : Name) → IsTrue (in_world before n) → NoneLoosens (unit_of before n) during → unit_of now n ≡ unit_of before n
 
 abbrev pub OpenKeeps : Type 0
 OpenKeeps = (z : Sizes) (before during : List Entry) (p : Pass) → Legal z (before ++ during) → IsTrue (is_open (after before) p)
@@ -394,12 +517,12 @@ SerialsOnce = (z : Sizes) → IsLawful z → (history : List Entry) → Legal z 
 
 -- ---- the headline
 
--- a collection removes only whole units that no root reaches, each object is begun at most once and then finished at most once, and a weak pointer gives its own object until its removal and nothing after
+-- a collection removes only whole units that no root reaches, each object is begun at most once and then finished at most once, and a weak pointer gives its own object until its removal or marking as garbage and nothing after
 pub record Headline (z : Sizes) (history : List Entry) : Type 0 where
   pub removes : (e : Entry) → Legal z (history ++ e ∷ []) → KeepsOrRemoves (after history) (after (history ++ e ∷ [])) e
   pub destroys : (n : Name) → (times_begun history n ≤ 1) × (times_finished history n ≤ times_begun history n)
   pub resolves : (lane : ℕ) (pair : Weak) (got : Option Name) → Legal z (history ++ entry (Lane lane) (act.Resolve pair got) ∷ [])
-      → (n : Name) → (got ≡ Some n) ↔ (WasGiven history n pair × IsTrue (in_world (after history) n))
+      → (n : Name) → (got ≡ Some n) ↔ Gives history pair n
 
 abbrev pub HeadlineHolds : Type 0
 HeadlineHolds = (z : Sizes) → IsLawful z → (history : List Entry) → Legal z history → Headline z history

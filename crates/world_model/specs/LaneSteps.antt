@@ -1,11 +1,11 @@
 -- What a lane may do.
-use Rattle.std.specs.Prelude.{◌≡◌, ℕ, ◌+◌, ◌-◌, ◌*◌, ◌<◌, ◌≤◌, nat_le, nat_lt, Bool, true, false, ◌&&◌, List, length, Option, Some, None, IsTrue, IfSome, MatchOption, ⊤}
+use Rattle.std.specs.Prelude.{◌≡◌, ◌≢◌, ℕ, ◌+◌, ◌-◌, ◌*◌, ◌<◌, ◌≤◌, nat_le, nat_lt, Bool, true, false, not, ◌&&◌, List, [], ◌∷◌, length, Option, Some, None, IsTrue, IfSome, MatchOption, ⊤}
 use Rattle.std.specs.List.{list_all}
 use Rattle.world_model.specs.Types.{Name, Weak, Kind, Ready, Marking, Lane, Act}
 use Rattle.world_model.specs.Types.act
 use Rattle.world_model.specs.Types.ready
 use Rattle.world_model.specs.Sizes.{Sizes, item_count}
-use Rattle.world_model.specs.NameLists.{has}
+use Rattle.world_model.specs.NameLists.{has, ends_with}
 use Rattle.world_model.specs.World.{World, unit_of, in_world, is_open, made, refs_of, plain_of, free, pair_of, drawn, resolved}
 use Rattle.world_model.specs.State.{State, Frame, Holds, IsMarked, is_marked}
 
@@ -38,11 +38,19 @@ PaysFor w (Some of) _ = ⊥
 abbrev pub Continues : World → Frame → Act → Type 0
 Continues w f a = PaysFor w f.owed a
 
+-- a lane that has begun to take a unit apart takes more of its members out, or ends that, and does nothing else
+abbrev pub PartsOn : List Name → Act → Type 0
+PartsOn [] a = ⊤
+PartsOn (first ∷ rest) (act.Loose of) = IsTrue (has (first ∷ rest) of)
+PartsOn (first ∷ rest) (act.Dissolve at count) = ⊤
+PartsOn (first ∷ rest) _ = ⊥
+
 -- ---- frames and places
 
 pub record InOpenFrame (s : State) (lane : ℕ) (a : Act) : Type 0 where
   pub opened : IsTrue (is_open s.world (Lane lane))
   pub continues : Continues s.world (s.frames lane) a
+  pub parts : PartsOn (s.frames lane).broken a
 
 -- an entry of a lane stands in its open frame, and FrameOpen outside one
 abbrev pub InFrame : State → ℕ → Act → Type 0
@@ -129,6 +137,33 @@ pub record LacksSerials (z : Sizes) (s : State) (lane : ℕ) (at : Name) (count 
   pub all : count ≡ drawn s.world lane
   pub spent : count ≡ z.serials
 
+-- ---- taking a unit apart
+
+-- outside marking a lane takes the last member out of a unit of two or more of its own
+pub record Loosens (s : State) (lane : ℕ) (of : Name) : Type 0 where
+  pub held : Holds s lane of
+  pub own : of.lane ≡ lane
+  pub unmarked : s.world.phase ≢ Marking
+  pub last : IsTrue (ends_with of (unit_of s.world of))
+
+-- of the unit that was taken apart, so many members large, all but the first have left it, from the last to the second; of a unit of one there is none
+abbrev pub AreLoose : World → Name → List Name → List Name → ℕ → Type 0
+AreLoose w at [] loosened count = (unit_of w at ≡ at ∷ []) × (count ≡ 1)
+AreLoose w at (first ∷ rest) loosened count = IsTrue (has (first ∷ rest) at) × (loosened ≡ rest) × (count ≡ length (first ∷ rest))
+
+-- a lane has taken a unit of its own apart
+pub record Dissolves (s : State) (lane : ℕ) (at : Name) (count : ℕ) : Type 0 where
+  pub held : Holds s lane at
+  pub own : at.lane ≡ lane
+  pub unmarked : s.world.phase ≢ Marking
+  pub loose : AreLoose s.world at (s.frames lane).broken (s.frames lane).loosened count
+
+-- while a collection marks no unit is taken apart
+pub record Refuses (s : State) (lane : ℕ) (at : Name) : Type 0 where
+  pub held : Holds s lane at
+  pub own : at.lane ≡ lane
+  pub marking : s.world.phase ≡ Marking
+
 -- ---- all of it
 
 -- what a lane may do, and nothing else
@@ -149,4 +184,9 @@ LaneMay z s lane (act.WeakOf at got) = GetsPair z s lane at got
 LaneMay z s lane (act.NoSerial at count) = LacksSerials z s lane at count
 LaneMay z s lane (act.Resolve pair got) = got ≡ resolved s.world pair
 LaneMay z s lane (act.Kept of) = LaneMarks s lane of
+LaneMay z s lane (act.Loose of) = Loosens s lane of
+LaneMay z s lane (act.Dissolve at count) = Dissolves s lane at count
+LaneMay z s lane (act.NoDissolve at) = Refuses s lane at
+LaneMay z s lane (act.MarkGarbage at old) = Holds s lane at × (old ≡ s.world.garbage at)
+LaneMay z s lane (act.IsValid at valid) = Holds s lane at × (valid ≡ not (s.world.garbage at))
 LaneMay z s lane _ = ⊥

@@ -26,3 +26,4 @@ pub mod Laws
 pub mod Follows
 pub mod Examples
 pub mod Edges
+pub mod Partings

@@ -33,6 +33,27 @@ abbrev pub begins_with : Name → List Name → Bool
 begins_with n [] = false
 begins_with n (first ∷ rest) = same_name n first
 
+-- whether the name is the last of these
+abbrev pub is_last : Name → List Name → Bool
+is_last n [] = false
+is_last n (m ∷ []) = same_name n m
+is_last n (m ∷ k ∷ names) = is_last n (k ∷ names)
+
+-- whether the name is the last member of a unit of two or more
+abbrev pub ends_with : Name → List Name → Bool
+ends_with n [] = false
+ends_with n (first ∷ rest) = is_last n rest
+
+-- all members of a unit but the last
+abbrev pub but_last : List Name → List Name
+but_last [] = []
+but_last (n ∷ []) = []
+but_last (n ∷ m ∷ names) = n ∷ but_last (m ∷ names)
+
+-- a unit of two or more whose last member this is, as two: what is left of it, and that member; any other one as it is
+abbrev pub parted : Name → List Name → List (List Name)
+parted n u = if ends_with n u then but_last u ∷ (n ∷ []) ∷ [] else u ∷ []
+
 -- the first member, if there is one
 abbrev pub first_member : List Name → Option Name
 first_member [] = None

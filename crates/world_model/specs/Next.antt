@@ -7,7 +7,7 @@ use Rattle.world_model.specs.Types.act
 use Rattle.world_model.specs.Types.begin
 use Rattle.world_model.specs.Types.commit
 use Rattle.world_model.specs.Types.sweep
-use Rattle.world_model.specs.NameLists.{same_name, same_pass, has, members, begins_with, names_from, set_at, set_name}
+use Rattle.world_model.specs.NameLists.{same_name, same_pass, has, members, begins_with, parted, names_from, set_at, set_name}
 use Rattle.world_model.specs.World.{World, Removal, Stage, Removed, Begun, Finished, unit_of, pair_of}
 use Rattle.world_model.specs.State.{State, Marks, Frame, Slicing, Collecting, no_frame, is_marked, white_units}
 
@@ -64,6 +64,10 @@ polled w n polls = removal_with w n (λ r. record r { polls = polls })
 abbrev pub released : World → Name → World
 released w n = record w { removals = filter (λ r. not (has (members (filter (begins_with n) w.last_removed)) r.name)) w.removals }
 
+-- the last member of a unit leaves it, and is a unit by itself
+abbrev pub with_loose : World → Name → World
+with_loose w n = record w { units = flat_map (parted n) w.units }
+
 -- the world after an entry
 abbrev pub next_world : Marks → World → Pass → Act → World
 next_world m w p (act.FrameOpen phase) = record w { opened = p ∷ w.opened }
@@ -83,6 +87,8 @@ next_world m w p (act.Begun of) = at_stage w of Begun
 next_world m w p (act.Asked of poll answer) = polled w of poll
 next_world m w p (act.Finished of) = at_stage w of Finished
 next_world m w p (act.Released of) = released w of
+next_world m w p (act.Loose of) = with_loose w of
+next_world m w p (act.MarkGarbage at old) = record w { garbage = set_name w.garbage at true }
 next_world m w p _ = w
 
 -- ---- what is beside it; w is the world after the entry, here and below
@@ -93,6 +99,8 @@ next_marks m w p (act.BeginGc begin.Started) = record { kept = []; fresh = []; s
 next_marks m w p (act.Kept of) = record m { kept = of ∷ m.kept; moments = w ∷ m.moments }
 next_marks m w p (act.Make kinds first) = record m { fresh = names_from (lane_of p) first kinds ++ m.fresh; moments = w ∷ m.moments }
 next_marks m w p (act.Scanned of) = record m { scanned = of ∷ m.scanned; moments = w ∷ m.moments }
+-- no unit is taken apart while a collection marks; outside that what lives counts as marked, and so do the parts of a unit
+next_marks m w p (act.Loose of) = record m { fresh = members w.units ++ m.fresh; moments = w ∷ m.moments }
 next_marks m w p _ = record m { moments = w ∷ m.moments }
 
 -- the objects that a lane's entry gives to its frame
@@ -105,12 +113,18 @@ given lane (act.GetStrong h got) = option_to_list got
 given lane (act.Resolve pair got) = option_to_list got
 given lane _ = []
 
+-- the unit that is being taken apart is that of the first member that leaves it
+abbrev pub broken_by : World → List Name → Name → List Name
+broken_by before [] n = unit_of before n
+broken_by before (first ∷ rest) n = first ∷ rest
+
 -- the frame of the lane that acts, between the world before and the world after
 abbrev pub next_frame : ℕ → World → World → Frame → Act → Frame
 next_frame lane before w f (act.FrameOpen phase) = no_frame
 next_frame lane before w f act.FrameClose = no_frame
 next_frame lane before w f (act.Kept of) = record f { owed = Some of; shaded = true }
-next_frame lane before w f a = record f { held = flat_map (unit_of w) (given lane a) ++ f.held; owed = None }
+next_frame lane before w f (act.Loose of) = record f { broken = broken_by before f.broken of; loosened = of ∷ f.loosened }
+next_frame lane before w f a = record f { held = flat_map (unit_of w) (given lane a) ++ f.held; owed = None; broken = []; loosened = [] }
 
 abbrev pub next_frames : (ℕ → Frame) → World → World → Pass → Act → ℕ → Frame
 next_frames frames before w (Lane lane) a = set_at frames lane (next_frame lane before w (frames lane) a)

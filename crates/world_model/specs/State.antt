@@ -22,6 +22,9 @@ pub record Frame : Type 0 where
   pub owed : Option Name
   -- whether it has marked a unit
   pub shaded : Bool
+  -- the unit that it is taking apart, as it stood before, and the members that have left it, the newest first
+  pub broken : List Name
+  pub loosened : List Name
 
 -- the slice of a marker
 pub record Slicing : Type 0 where
@@ -54,7 +57,7 @@ pub record State : Type 0 where
   pub collector : Collecting
 
 abbrev pub no_frame : Frame
-no_frame = record { held = []; owed = None; shaded = false }
+no_frame = record { held = []; owed = None; shaded = false; broken = []; loosened = [] }
 
 -- before any entry
 abbrev pub beginning : State

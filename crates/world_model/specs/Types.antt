@@ -13,6 +13,8 @@ pub use Rattle.world_model.specs.declared.pass.Pass.TheVariants.{Lane, Marker, C
 pub use Rattle.world_model.specs.declared.reply.CreateErr.{CreateErr}
 pub use Rattle.world_model.specs.declared.reply.CreateErr.TheVariants as create
 pub use Rattle.world_model.specs.declared.reply.SerialsSpent.{SerialsSpent}
+pub use Rattle.world_model.specs.declared.reply.DissolveErr.{DissolveErr}
+pub use Rattle.world_model.specs.declared.reply.DissolveErr.TheVariants as dissolve
 pub use Rattle.world_model.specs.declared.reply.Begin.{Begin}
 pub use Rattle.world_model.specs.declared.reply.Begin.TheVariants as begin
 pub use Rattle.world_model.specs.declared.reply.Commit.{Commit}

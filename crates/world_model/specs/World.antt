@@ -1,5 +1,5 @@
 -- The world of objects, and what is read from it.
-use Rattle.std.specs.Prelude.{ℕ, ◌+◌, ◌-◌, ◌==◌, ◌&&◌, Bool, true, false, if◌then◌else◌, List, [], length, Option, Some, None, slice_get, unwrap_or, option_map, option_and_then}
+use Rattle.std.specs.Prelude.{ℕ, ◌+◌, ◌-◌, ◌==◌, ◌&&◌, Bool, true, false, not, if◌then◌else◌, List, [], length, Option, Some, None, slice_get, unwrap_or, option_map, option_and_then}
 use Rattle.std.specs.List.{list_any, find, filter, count_by, flat_map}
 use Rattle.std.specs.Option.{option_map_or}
 use Rattle.world_model.specs.Types.{Name, Weak, Kind, Pass, Phase, Idle, Gathering}
@@ -36,6 +36,8 @@ pub record World : Type 0 where
   -- the root set: the rooted objects, and the strong pointers by lane and number
   pub rooted : Name → Bool
   pub strong : ℕ → ℕ → Option Name
+  -- the objects that are marked as garbage
+  pub garbage : Name → Bool
   -- the lanes with an open frame and the markers with an open slice
   pub opened : List Pass
   pub phase : Phase
@@ -57,6 +59,7 @@ empty_world = record {
   units = [];
   rooted = λ n. false;
   strong = λ lane number. None;
+  garbage = λ n. false;
   opened = [];
   phase = Idle;
   pairs = [];
@@ -108,9 +111,13 @@ pair_of w n = option_map (λ p. p.weak) (find (λ p. same_name n p.name) w.pairs
 abbrev pub drawn : World → ℕ → ℕ
 drawn w lane = count_by (λ p. p.lane == lane) w.pairs
 
--- the object for which a pair was made, while it lives
+-- whether a weak pointer may give an object: it lives, and is not garbage
+abbrev pub is_given : World → Name → Bool
+is_given w n = in_world w n && not (w.garbage n)
+
+-- the object for which a pair was made, while it lives and is not garbage
 abbrev pub resolved : World → Weak → Option Name
-resolved w pair = option_and_then (λ p. if in_world w p.name then Some p.name else None) (find (λ p. same_weak pair p.weak) w.pairs)
+resolved w pair = option_and_then (λ p. if is_given w p.name then Some p.name else None) (find (λ p. same_weak pair p.weak) w.pairs)
 
 abbrev pub has_stage : Stage → Stage → Bool
 has_stage Removed Removed = true

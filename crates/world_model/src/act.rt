@@ -7,7 +7,7 @@ use crate::pass::{Pass, Phase};
 use crate::reply::{Begin, Commit, Marked, Purged, Swept};
 
 /// What was done: one act for each call and answer, the notes of marking (`SliceOpen`, `Kept`,
-/// `Scanned`), and the steps of destruction (`Begun`, `Asked`, `Finished`, `Released`).
+/// `Scanned`) and of taking a unit apart (`Loose`), and the steps of destruction (`Begun`, `Asked`, `Finished`, `Released`).
 #[derive(Clone, Debug, Drop, PartialEq, Eq)]
 pub enum Act {
     /// A lane opened its frame, in this phase.
@@ -88,6 +88,29 @@ pub enum Act {
     Resolve {
         pair: Weak,
         got: Option<Name>,
+    },
+    /// A lane took this member out of its unit: it is a unit by itself.
+    Loose {
+        of: Name,
+    },
+    /// A lane has taken apart the unit of an object, which had `count` members.
+    Dissolve {
+        at: Name,
+        count: u32,
+    },
+    /// A lane asked for the unit of an object to be taken apart, while a collection marked.
+    NoDissolve {
+        at: Name,
+    },
+    /// A lane marked an object as garbage; `old` says whether it was garbage.
+    MarkGarbage {
+        at: Name,
+        old: bool,
+    },
+    /// A lane asked whether an object is valid, which is to say not garbage.
+    IsValid {
+        at: Name,
+        valid: bool,
     },
     /// The collector was asked to begin a collection.
     BeginGc {

@@ -16,9 +16,10 @@ use std::marker::{Brand, Model, PhantomData};
 mod acts;
 
 use acts::{
-    Asks, Begins, BeginsGc, ClosesFrame, ClosesSlice, CommitsGc, Finishes, GetsStrong, GivesWeak,
-    IsFull, Keeps, LacksSerial, Makes, OpensFrame, OpensSlice, PurgesGc, ReadsPlain, ReadsRef,
-    Releases, Resolves, Roots, Scans, SetsStrong, SpendsNames, Sweeps, WritesPlain, WritesRef,
+    Asks, Begins, BeginsGc, ClosesFrame, ClosesSlice, CommitsGc, Dissolves, Finishes, GetsStrong,
+    GivesWeak, IsFull, Keeps, LacksSerial, Loosens, Makes, MarksGarbage, OpensFrame, OpensSlice,
+    PurgesGc, ReadsPlain, ReadsRef, RefusesToDissolve, Releases, Resolves, Roots, Scans,
+    SetsStrong, SpendsNames, Sweeps, TellsValid, WritesPlain, WritesRef,
 };
 
 /// The rule of the table, which every state meets: nobody shares a diary.
@@ -209,6 +210,41 @@ impl Diary {
         ensures { self.new ≡ self.old ++ record { pass = pass; act = act.Resolve pair got } ∷ [] }
     {
         self.add::<(Pass, Weak, Option<Name>), Resolves>(&(pass, pair, got));
+    }
+
+    /// A lane took this member out of its unit.
+    pub fn loose(&mut self, pass: Pass, of: Name)
+        ensures { self.new ≡ self.old ++ record { pass = pass; act = act.Loose of } ∷ [] }
+    {
+        self.add::<(Pass, Name), Loosens>(&(pass, of));
+    }
+
+    /// A lane has taken apart the unit of an object, which had `count` members.
+    pub fn dissolve(&mut self, pass: Pass, at: Name, count: u32)
+        ensures { self.new ≡ self.old ++ record { pass = pass; act = act.Dissolve at count } ∷ [] }
+    {
+        self.add::<(Pass, Name, u32), Dissolves>(&(pass, at, count));
+    }
+
+    /// A lane asked for the unit of an object to be taken apart, while a collection marked.
+    pub fn no_dissolve(&mut self, pass: Pass, at: Name)
+        ensures { self.new ≡ self.old ++ record { pass = pass; act = act.NoDissolve at } ∷ [] }
+    {
+        self.add::<(Pass, Name), RefusesToDissolve>(&(pass, at));
+    }
+
+    /// A lane marked an object as garbage; `old` says whether it was garbage.
+    pub fn mark_garbage(&mut self, pass: Pass, at: Name, old: bool)
+        ensures { self.new ≡ self.old ++ record { pass = pass; act = act.MarkGarbage at old } ∷ [] }
+    {
+        self.add::<(Pass, Name, bool), MarksGarbage>(&(pass, at, old));
+    }
+
+    /// A lane asked whether an object is valid, which is to say not garbage.
+    pub fn is_valid(&mut self, pass: Pass, at: Name, valid: bool)
+        ensures { self.new ≡ self.old ++ record { pass = pass; act = act.IsValid at valid } ∷ [] }
+    {
+        self.add::<(Pass, Name, bool), TellsValid>(&(pass, at, valid));
     }
 
     /// The collector was asked to begin a collection.

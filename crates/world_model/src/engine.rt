@@ -11,13 +11,13 @@ ghost use Rattle.world_model.specs.LaneSteps.{is_lawful};
 ghost use Rattle.world_model.specs.Histories.{state_of, after};
 ghost use Rattle.world_model.specs.Calls.{Appends};
 ghost use Rattle.world_model.specs.Hooks.{SameTest, AreCalled, MeetTest};
-ghost use Rattle.world_model.specs.Engines.{IsInFrame, no_slice, KeepsHeld, KeepsOthers, act_of_create, name_of};
+ghost use Rattle.world_model.specs.Engines.{IsInFrame, no_slice, KeepsHeld, KeepsOthers, act_of_create, act_of_dissolve, name_of};
 
 use crate::hooks::Hooks;
 use crate::kind::Kind;
 use crate::name::{Name, Ref};
 use crate::pass::Phase;
-use crate::reply::{Begin, Commit, CreateErr, Marked, Purged, Swept};
+use crate::reply::{Begin, Commit, CreateErr, DissolveErr, Marked, Purged, Swept};
 use crate::shape::Shape;
 
 /// A world of objects, whichever way it is kept.
@@ -125,6 +125,36 @@ pub trait Engine<S: Shape> {
         requires frame { IsInFrame S.sizes (history self.old) lane }
         requires at { holds self.old lane at }
         ensures entries { Appends S.sizes (history self.old) (history self.new) (Lane lane) (act.Root at.name on result) }
+        ensures held { KeepsHeld (holds self.old) (holds self.new) };
+
+    /// Takes the unit of an object apart, so that each of its members is a unit by itself, and tells
+    /// how many they are. Only the lane that made the unit can do this; a unit of one member stays as
+    /// it is. References, roots and weak pointers stay, so from then on each member is kept or removed
+    /// by itself.
+    ///
+    /// It is refused with `Marking` while a collection marks, for then one mark stands for all
+    /// members. Then nothing is changed.
+    fn dissolve(&mut self, lane: u32, at: Ref) -> Result<u32, DissolveErr>
+        requires frame { IsInFrame S.sizes (history self.old) lane }
+        requires at { holds self.old lane at }
+        requires own { at.name.lane ≡ lane }
+        ensures entries { Appends S.sizes (history self.old) (history self.new) (Lane lane) (act_of_dissolve at.name result) }
+        ensures held { KeepsHeld (holds self.old) (holds self.new) };
+
+    /// Marks an object as garbage, which is never undone, and tells whether it was garbage. From then
+    /// on its weak pointer gives nothing. It stays in the world as long as it is reached, and
+    /// references to it stay.
+    fn mark_garbage(&mut self, lane: u32, at: Ref) -> bool
+        requires frame { IsInFrame S.sizes (history self.old) lane }
+        requires at { holds self.old lane at }
+        ensures entries { Appends S.sizes (history self.old) (history self.new) (Lane lane) (act.MarkGarbage at.name result) }
+        ensures held { KeepsHeld (holds self.old) (holds self.new) };
+
+    /// Whether an object is valid: not marked as garbage.
+    fn is_valid(&mut self, lane: u32, at: Ref) -> bool
+        requires frame { IsInFrame S.sizes (history self.old) lane }
+        requires at { holds self.old lane at }
+        ensures entries { Appends S.sizes (history self.old) (history self.new) (Lane lane) (act.IsValid at.name result) }
         ensures held { KeepsHeld (holds self.old) (holds self.new) };
 
     /// Runs one slice of marking: scans grey units until `budget` objects or more are scanned, or

@@ -4,6 +4,7 @@ ghost use Rattle.world_model.specs.Sizes.{level, small};
 ghost use Rattle.world_model.specs.Histories.{Legal};
 ghost use Rattle.world_model.specs.Examples.{smallest, busy, GarbageStays, AreSharp, Refusals};
 ghost use Rattle.world_model.specs.Edges.{Edges};
+ghost use Rattle.world_model.specs.Partings.{singles_removed, pair_apart, garbage_kept, PartingsShow, PartingRefusals};
 
 /// The history of the smallest script, in shape [`crate::Level`]: an object is made and rooted,
 /// and a collection keeps it.
@@ -41,4 +42,33 @@ pub fn wrong_entries_are_refused()
 /// may not.
 pub fn edges_are_sharp()
     ensures { Edges }
+{}
+
+/// A cluster of three in shape [`crate::Small`] that is taken apart: a collection keeps the one
+/// member that is rooted, and removes the two others.
+pub fn parting_is_legal()
+    ensures { Legal small singles_removed }
+{}
+
+/// A unit of two in shape [`crate::Small`] that is not taken apart while a collection marks, and is
+/// after its commit.
+pub fn late_parting_is_legal()
+    ensures { Legal small pair_apart }
+{}
+
+/// An object in shape [`crate::Small`] that is marked as garbage: its weak pointer gives none, and a
+/// collection keeps it, for a strong pointer names it.
+pub fn garbage_is_legal()
+    ensures { Legal small garbage_kept }
+{}
+
+/// What these show: members alone, of which a collection keeps the one that is rooted; and a weak
+/// pointer that gives none though its object lives.
+pub fn partings_show()
+    ensures { PartingsShow }
+{}
+
+/// Entries on units taken apart and on garbage that no legal history goes on with.
+pub fn wrong_partings_are_refused()
+    ensures { PartingRefusals }
 {}

@@ -1,8 +1,9 @@
 //! What follows from the rules: laws of every legal history, each the contract of a function that
 //! does nothing.
 ghost use Rattle.world_model.specs.Follows.{HeadlineHolds};
-ghost use Rattle.world_model.specs.Follows.{HeldLives, GivenIsHeld, NamedLives, LivesAfter, UnitsAfter};
+ghost use Rattle.world_model.specs.Follows.{HeldLives, GivenIsHeld, HeldWithUnit, NamedLives, LivesAfter, UnitsAfter};
 ghost use Rattle.world_model.specs.Follows.{RemovedAfter, NoneComesBack, UnitStays};
+ghost use Rattle.world_model.specs.Follows.{UnitsNeverJoin, OwnUnitsStay};
 ghost use Rattle.world_model.specs.Follows.{UnitsAreSound, EachInOnePlace};
 ghost use Rattle.world_model.specs.Follows.{BlackRefersToMarked, NoWhiteReached, StartMarksRoots};
 ghost use Rattle.world_model.specs.Follows.{RootsStayMarked, CommitRuleFollows};
@@ -11,12 +12,15 @@ ghost use Rattle.world_model.specs.Follows.{FloatingIsBounded, UnreachedIsRemove
 ghost use Rattle.world_model.specs.Follows.{DestroyedOnce, DestroyedByStage, AllBegunFirst};
 ghost use Rattle.world_model.specs.Follows.{BegunWhenFinished, ReleasedWhole, ReleasedBeforeStart};
 ghost use Rattle.world_model.specs.Follows.{WeakPointers, ResolveGives, ResolveGivesNoneAgain};
+ghost use Rattle.world_model.specs.Follows.{GarbageIsMarked, GarbageLasts};
+ghost use Rattle.world_model.specs.Follows.{TakenApart, DissolvesUnit, DissolveAnswers, StaysAlone, CollectedSingly};
 ghost use Rattle.world_model.specs.Follows.{OpenKeeps, OwnStays, OwnJoins, FewOpen};
 ghost use Rattle.world_model.specs.Follows.{QuotasHold, NamesOnce, SerialsOnce};
 
 /// A collection removes only whole units that no root reaches, each object is begun at most once
-/// and then finished at most once, and a weak pointer gives its own object until its removal and
-/// nothing after.
+/// and then finished at most once, and a weak pointer gives its own object until its removal or
+/// marking as garbage and nothing after. A cluster that was taken apart is no unit any more, so of
+/// its members this speaks one by one.
 pub fn headline()
     ensures { HeadlineHolds }
 {}
@@ -34,6 +38,11 @@ pub fn given_is_held()
     ensures { GivenIsHeld }
 {}
 
+/// What a lane holds it holds with all members of its unit.
+pub fn held_with_unit()
+    ensures { HeldWithUnit }
+{}
+
 /// What a reference cell of an object that lives names, what is rooted, and what a strong pointer
 /// names lives, in every phase.
 pub fn named_lives()
@@ -46,8 +55,8 @@ pub fn lives_after()
     ensures { LivesAfter }
 {}
 
-/// After an entry the units are the one that it makes, if it makes one, and those before it; after a
-/// commit, of these, the marked ones.
+/// After an entry the units are the one that it makes, if it makes one; the two into which it parts
+/// one, if it does; and those before it that lose no member, after a commit the marked ones of these.
 pub fn units_after()
     ensures { UnitsAfter }
 {}
@@ -63,9 +72,20 @@ pub fn none_comes_back()
     ensures { NoneComesBack }
 {}
 
-/// As long as an object lives it stays in its unit.
+/// As long as an object lives and no member is taken out of its unit it stays in that unit.
 pub fn unit_stays()
     ensures { UnitStays }
+{}
+
+/// Units never grow and are never joined: what stands in one unit stood in one, if it lived.
+pub fn units_never_join()
+    ensures { UnitsNeverJoin }
+{}
+
+/// A lane alone takes the units apart that it made: while others act, an object of the lane that
+/// lives stays in its unit.
+pub fn own_units_stay()
+    ensures { OwnUnitsStay }
 {}
 
 /// A name stands in one unit, and once; each unit has a member; and outside marking each unit
@@ -110,8 +130,8 @@ pub fn commit_rule_follows()
 
 // ---- removal
 
-/// No entry takes a unit that is reached out of the world; and a unit goes whole, by a commit
-/// alone, to the removed ones.
+/// No entry takes a unit that is reached out of the world, though one may part it in two; and a unit
+/// goes whole, by a commit alone, to the removed ones.
 pub fn reached_stay()
     ensures { ReachedStay }
 {}
@@ -169,25 +189,69 @@ pub fn released_before_start()
 // ---- weak pointers
 
 /// A pair of index and serial is given for one object at most, and an object has one; it gives its
-/// object exactly while that lives, and a pair that was never given gives none.
+/// object exactly while that lives and is not garbage, and a pair that was never given gives none.
 pub fn weak_pointers()
     ensures { WeakPointers }
 {}
 
-/// A weak pointer gives an object exactly where it was given for it and the object lives.
+/// A weak pointer gives an object exactly where it was given for it, and the object lives and is not
+/// garbage.
 pub fn resolve_gives()
     ensures { ResolveGives }
 {}
 
-/// A weak pointer whose object does not live never gives anything again.
+/// A weak pointer whose object does not live, or is garbage, never gives anything again.
 pub fn resolve_gives_none_again()
     ensures { ResolveGivesNoneAgain }
+{}
+
+// ---- garbage
+
+/// An object is garbage exactly where a lane has marked it so; so none is garbage when it is made,
+/// whichever index it gets.
+pub fn garbage_is_marked()
+    ensures { GarbageIsMarked }
+{}
+
+/// What is garbage stays so.
+pub fn garbage_lasts()
+    ensures { GarbageLasts }
+{}
+
+// ---- taking a unit apart
+
+/// When a lane says that it has taken a unit of so many members apart, each of them is a unit by
+/// itself, whatever others did meanwhile.
+pub fn taken_apart()
+    ensures { TakenApart }
+{}
+
+/// In a solo call that is the unit in which the object stood, and all other units stay.
+pub fn dissolves_unit()
+    ensures { DissolvesUnit }
+{}
+
+/// Taking a unit apart is refused exactly while a collection marks: else some solo call does it.
+pub fn dissolve_answers()
+    ensures { DissolveAnswers }
+{}
+
+/// An object that is a unit by itself is one as long as it lives.
+pub fn stays_alone()
+    ensures { StaysAlone }
+{}
+
+/// When a unit was taken apart, a whole collection keeps those of its members that are reached each
+/// by itself, and no others.
+pub fn collected_singly()
+    ensures { CollectedSingly }
 {}
 
 // ---- frames
 
 /// While a frame or a slice is open no collection starts and none commits, the phase stays, but for
-/// the end of gathering, and each object that lives stays so, in its unit.
+/// the end of gathering, and each object that lives stays so, in its unit as long as no member is
+/// taken out of that.
 pub fn open_keeps()
     ensures { OpenKeeps }
 {}

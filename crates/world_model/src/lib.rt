@@ -34,6 +34,7 @@ pub use list::{Kinds, Names, Sequence};
 pub use name::{Name, Ref, Weak};
 pub use pass::{Pass, PassSet, Phase};
 pub use reply::{
-    Begin, Collected, Commit, CreateErr, MarkStop, Marked, Purged, SerialsSpent, SweepStop, Swept,
+    Begin, Collected, Commit, CreateErr, DissolveErr, MarkStop, Marked, Purged, SerialsSpent,
+    SweepStop, Swept,
 };
 pub use shape::{Level, Shape, Small};

@@ -17,6 +17,13 @@ pub struct SerialsSpent {
     pub made: u32,
 }
 
+/// Why a unit was not taken apart.
+#[derive(Clone, Copy, Debug, PartialEq, Eq)]
+pub enum DissolveErr {
+    /// A collection marks. The unit can be taken apart after its commit.
+    Marking,
+}
+
 /// Whether a collection began.
 #[derive(Clone, Copy, Debug, PartialEq, Eq)]
 pub enum Begin {

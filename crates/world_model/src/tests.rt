@@ -44,6 +44,11 @@ fn each_act_is_told_to_a_diary(rt: HostRuntime) -> Result<(), Fail> {
     diary.weak_of(lane, one, pair);
     diary.no_serial(lane, one, 8);
     diary.resolve(lane, pair, Some(one));
+    diary.loose(lane, name(0, 2));
+    diary.dissolve(lane, one, 2);
+    diary.no_dissolve(lane, one);
+    diary.mark_garbage(lane, one, false);
+    diary.is_valid(lane, one, false);
     diary.frame_close(lane);
     told_to_markers_and_collector(&mut diary, one);
     Ok(())

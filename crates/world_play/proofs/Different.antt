@@ -10,6 +10,7 @@ use Rattle.world_model.specs.Next.{next_world, next, run}
 use Rattle.world_model.specs.Histories.{MayBy, Legal, LegalFrom, after}
 use Rattle.world_model.proofs.ListFacts.{and_true, or_true, or_right}
 use Rattle.world_model.proofs.NameFacts.{same_name_true, same_name_refl, names_from_range}
+use Rattle.world_model.proofs.Loosening.{members_parted}
 use Rattle.world_model.proofs.Units.{AreApart, next_apart}
 use Rattle.world_model.proofs.NameFacts.{has_among, among_members}
 use Rattle.world_play.specs.Types.{Name, Kind, Pass, Lane, Marker, Collector, Act, Entry}
@@ -119,6 +120,7 @@ next_different z s (Lane lane) (act.Make kinds first) may apart h =
 next_different z s (Marker marker) (act.Make kinds first) may apart h = absurd may.may
 next_different z s Collector (act.Make kinds first) may apart h = absurd may.may
 next_different z s p (act.CommitGc commit.Done) may apart h = different_filter (is_marked s.marks) s.world.units h
+next_different z s p (act.Loose of) may apart h = ap all_different (members_parted of s.world.units) ∙ h
 next_different z s p (act.BeginGc begin.Started) may apart h = h
 next_different z s p _ may apart h = h
 
@@ -130,4 +132,4 @@ run_different z s (e ∷ entries) legal apart h =
     run_different z (next s e) entries legal.1 (next_apart z s e.pass e.act legal.0 apart) one
 
 pub members_different : (z : Sizes) (history : List Entry) → Legal z history → all_different (members (after history).units) ≡ true
-members_different z history legal = run_different z beginning history legal (record { made = λ u n m. absurd m; apart = λ u v n m. absurd m }) refl
+members_different z history legal = run_different z beginning history legal (record { made = λ u n m. absurd m; apart = λ u v n m. absurd m; different = λ u m. absurd m; one_lane = λ u n k m. absurd m }) refl

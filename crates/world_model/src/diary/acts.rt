@@ -97,6 +97,36 @@ impl Tells<(Pass, Weak, Option<Name>)> for Resolves {
     ghost entry = { λ x. record { pass = x.0; act = act.Resolve x.1 x.2 } };
 }
 
+pub struct Loosens;
+
+impl Tells<(Pass, Name)> for Loosens {
+    ghost entry = { λ x. record { pass = x.0; act = act.Loose x.1 } };
+}
+
+pub struct Dissolves;
+
+impl Tells<(Pass, Name, u32)> for Dissolves {
+    ghost entry = { λ x. record { pass = x.0; act = act.Dissolve x.1 x.2 } };
+}
+
+pub struct RefusesToDissolve;
+
+impl Tells<(Pass, Name)> for RefusesToDissolve {
+    ghost entry = { λ x. record { pass = x.0; act = act.NoDissolve x.1 } };
+}
+
+pub struct MarksGarbage;
+
+impl Tells<(Pass, Name, bool)> for MarksGarbage {
+    ghost entry = { λ x. record { pass = x.0; act = act.MarkGarbage x.1 x.2 } };
+}
+
+pub struct TellsValid;
+
+impl Tells<(Pass, Name, bool)> for TellsValid {
+    ghost entry = { λ x. record { pass = x.0; act = act.IsValid x.1 x.2 } };
+}
+
 pub struct BeginsGc;
 
 impl Tells<(Pass, Begin)> for BeginsGc {

@@ -35,4 +35,5 @@ invariant_of-result g c =
       polls = sym c.in_ok-filled-16.ensures t;
       waiting = sym c.in_ok-filled-17.ensures t;
       done = None;
+      garbage = sym c.in_ok-filled-18.ensures t;
     }))

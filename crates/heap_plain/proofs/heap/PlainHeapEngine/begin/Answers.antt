@@ -3,6 +3,9 @@ use Rattle.heap_plain.proofs.WorldFacts.{appends_one}
 use Rattle.heap_plain.proofs.BeginSteps.{refuses_begin, refuses_begin_call, refuses_begin_held, started_invariant, started_appends, started_held, head_named, start_facts}
 use Rattle.heap_plain.proofs.heap.PlainHeapEngine.begin.Goals as goal
 
+pub count_open-requires : goal.count_open-requires
+count_open-requires g c = rw c.deref.ensures.value (omega (arith, c.self.invariant.shows.frames.lanes.len, g.S.Shape.lawful.few_lanes))
+
 pub keep_roots-self-inside-requires-clause-named : goal.keep_roots-self-inside-requires-clause-named
 keep_roots-self-inside-requires-clause-named g c i e =
     rw (c.deref-then-starts.ensures.value, c.deref-then-starts-2.ensures.value) (head_named _ _ _ c.self.invariant i (rw c.deref-then-starts-3.ensures.value at e))

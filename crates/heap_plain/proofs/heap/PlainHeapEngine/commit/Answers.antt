@@ -4,6 +4,9 @@ use Rattle.heap_plain.specs.Types.commit
 use Rattle.heap_plain.proofs.CommitSteps.{refuses_commit, commits_alone, refuses_commit_held, done_facts, commits, commits_held}
 use Rattle.heap_plain.proofs.heap.PlainHeapEngine.commit.Goals as goal
 
+pub count_open-requires : goal.count_open-requires
+count_open-requires g c = rw c.deref.ensures.value (omega (arith, c.self.invariant.shows.frames.lanes.len, g.S.Shape.lawful.few_lanes))
+
 pub invariant_of-self : goal.invariant_of-self
 invariant_of-self g c =
     let m = rw (c.count_open.ensures, c.deref.ensures.value) at c.may_end-reply.ensures in

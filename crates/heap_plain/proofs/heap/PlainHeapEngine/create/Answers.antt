@@ -96,6 +96,14 @@ link-requires-clause-stack g c =
     pops c.self.invariant.shows.free _ _ _ _ _ _ frame.in_range c.index-spare.ensures
     (c.QUOTA.ensures ∙ g.S.Shape.constants.quota) c.self.invariant.shows.units.links_len c.deref-8.ensures.value c.in_default.ensures.1
 
+pub fill_popped-requires-3 : goal.fill_popped-requires-3
+fill_popped-requires-3 g c =
+    let frame = rw (← c.self.view_is) at c.requires.frame in
+    record {
+      stack = pops c.self.invariant.shows.free _ _ _ _ _ _ frame.in_range c.index-spare.ensures
+          (c.QUOTA.ensures ∙ g.S.Shape.constants.quota) c.self.invariant.shows.garbage.len c.deref-9.ensures.value c.in_default.ensures.1;
+    }
+
 pub index_mut-requires : goal.index_mut-requires
 index_mut-requires g c =
     let frame = rw (← c.self.view_is) at c.requires.frame in
@@ -114,7 +122,7 @@ pub answer-requires-clause-room : goal.answer-requires-clause-room
 answer-requires-clause-room g c =
     let frame = rw (← c.self.view_is) at c.requires.frame in
     (pops c.self.invariant.shows.free _ _ _ _ _ _ frame.in_range c.index-spare.ensures
-    (c.QUOTA.ensures ∙ g.S.Shape.constants.quota) refl c.deref-9.ensures.value c.in_default.ensures.1).room
+    (c.QUOTA.ensures ∙ g.S.Shape.constants.quota) refl c.deref-10.ensures.value c.in_default.ensures.1).room
 
 -- what the calls before the last one have written
 creation : (g : Over) (c : goal.After-out-1 g) → Creation g.S.Shape.sizes (record {
@@ -146,7 +154,8 @@ creation : (g : Over) (c : goal.After-out-1 g) → Creation g.S.Shape.sizes (rec
   polls = c.self.inside.polls.items;
   waiting = c.self.inside.waiting.items;
   done = c.self.inside.done;
-}) c.self.inside.diary c.args.lane c.index-made.result.now c.args.kinds.now c.place.new.names.items c.fill_popped.new.items.items c.link.new.next.items c.classify.new.stored.items c.fill_rows.new.cells.items c.fill_rows-2.new.cells.items c.fill_popped-2.new.items.items
+  garbage = c.self.inside.garbage.items;
+}) c.self.inside.diary c.args.lane c.index-made.result.now c.args.kinds.now c.place.new.names.items c.fill_popped.new.items.items c.link.new.next.items c.classify.new.stored.items c.fill_rows.new.cells.items c.fill_rows-2.new.cells.items c.fill_popped-2.new.items.items c.fill_popped-3.new.items.items
 creation g c =
     let frame = rw (← c.self.view_is) at c.requires.frame in
     let s = c.self.invariant.shows in
@@ -170,6 +179,7 @@ creation g c =
       by_plain = rw (c.deref-6.ensures.value, c.QUOTA.ensures, k.quota, c.SLOTS-slots.ensures, k.slots, now) at c.fill_rows-2.ensures;
       by_life = rw (c.deref-7.ensures.value, c.QUOTA.ensures, k.quota, now) at c.fill_popped-2.ensures;
       by_next = rw (c.deref-8.ensures.value, c.QUOTA.ensures, k.quota, now) at c.link.ensures;
+      by_garbage = rw (c.deref-9.ensures.value, c.QUOTA.ensures, k.quota, now) at c.fill_popped-3.ensures;
     }
 
 pub invariant_of-self-2 : goal.invariant_of-self-2
@@ -189,7 +199,7 @@ pub returns-clause-given : goal.returns-clause-given
 returns-clause-given g c = λ i other below.
     let now = spare_read c.self.invariant.shows.free _ _ (creation g c).lane c.index-spare.ensures in
     let there = from_start c.answer.ensures i other (omega (arith, c.answer.ensures.len)) in
-    rw (c.make.ensures, there, c.deref-9.ensures.value, c.QUOTA.ensures, g.S.Shape.constants.quota, now) (new_held (creation g c) i (omega (arith, c.answer.ensures.len, c.requires.room)))
+    rw (c.make.ensures, there, c.deref-10.ensures.value, c.QUOTA.ensures, g.S.Shape.constants.quota, now) (new_held (creation g c) i (omega (arith, c.answer.ensures.len, c.requires.room)))
 
 pub returns-clause-held : goal.returns-clause-held
 returns-clause-held g c = rw (← c.self.view_is, c.make.ensures) (still_held (creation g c))

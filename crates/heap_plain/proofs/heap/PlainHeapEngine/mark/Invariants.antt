@@ -35,6 +35,7 @@ invariant-loop-self g l = record {
     polls = l.self-inside.polls.items;
     waiting = l.self-inside.waiting.items;
     done = l.self-inside.done;
+    garbage = l.self-inside.garbage.items;
   }) l.self-inside.diary;
 }
 

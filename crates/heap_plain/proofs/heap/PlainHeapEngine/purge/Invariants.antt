@@ -34,6 +34,7 @@ invariant-loop-steps g l = record {
     polls = l.self-inside.polls.items;
     waiting = l.self-inside.waiting.items;
     done = l.self-inside.done;
+    garbage = l.self-inside.garbage.items;
   }) l.self-inside.diary;
 }
 

@@ -15,6 +15,11 @@ returns-in_default-clause-entries g c = rw (← c.self.view_is) (appends_one _ _
 pub returns-in_default-clause-held : goal.returns-in_default-clause-held
 returns-in_default-clause-held g c = rw (← c.self.view_is, c.sweep.ensures) (sweep_held _ _ _ _ _)
 
+pub overflow_add-self : goal.overflow_add-self
+overflow_add-self g c =
+    let f = rw (c.deref.ensures.value, c.deref-2.ensures.value) at c.find_removed-looked.ensures in
+    omega (arith, f.range, c.self.invariant.shows.names.items, g.S.Shape.lawful.few_items)
+
 pub list_units-self-inside-requires : goal.list_units-self-inside-requires
 list_units-self-inside-requires g c =
     let f = rw (c.deref.ensures.value, c.deref-2.ensures.value) at c.find_removed-looked.ensures in

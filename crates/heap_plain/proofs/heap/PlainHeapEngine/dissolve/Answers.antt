@@ -1,0 +1,69 @@
+use Rattle.std.proofs.Common.{◌≡◌, refl, arith, get_or}
+use Rattle.std.proofs.lemmas.List.{get_or_read}
+use Rattle.heap_plain.specs.Parts.{first_at}
+use Rattle.heap_plain.proofs.WorldFacts.{appends_one}
+use Rattle.heap_plain.proofs.Dissolving.{starts, head_below, place_below, refused, refused_held, chain_below, last_named, last_below, head_within, goes_on, ends_plain, ends_appends, ends_held}
+use Rattle.heap_plain.proofs.heap.PlainHeapEngine.dissolve.Goals as goal
+
+pub invariant_of-self : goal.invariant_of-self
+invariant_of-self g c =
+    let frame = rw (← c.self.view_is) at c.requires.frame in
+    let held = rw (← c.self.view_is) at c.requires.at in
+    rw c.no_dissolve.ensures (refused _ _ _ _ _ c.self.invariant frame.in_range frame.opened held c.requires.own c.in-Marking.is)
+
+pub returns-in-Marking-clause-entries : goal.returns-in-Marking-clause-entries
+returns-in-Marking-clause-entries g c = rw (← c.self.view_is) (appends_one _ _ _ _ _ refl c.no_dissolve.ensures (invariant_of-self g c).legal)
+
+pub returns-in-Marking-clause-held : goal.returns-in-Marking-clause-held
+returns-in-Marking-clause-held g c =
+    let frame = rw (← c.self.view_is) at c.requires.frame in
+    let held = rw (← c.self.view_is) at c.requires.at in
+    rw (← c.self.view_is, c.no_dissolve.ensures) (refused_held _ _ _ _ _ c.self.invariant frame.in_range frame.opened held c.requires.own)
+
+pub index-count-requires : goal.index-count-requires
+index-count-requires g c =
+    let frame = rw (← c.self.view_is) at c.requires.frame in
+    let held = rw (← c.self.view_is) at c.requires.at in
+    let s = c.self.invariant.shows in
+    let below = place_below _ _ _ _ _ c.self.invariant frame.in_range frame.opened held c.requires.own in
+    let head : c.index-head.result.now ≡ first_at c.self.inside.firsts.items c.args.at.index = get_or_read c.self.inside.firsts.items _ _ (omega (arith, below, s.units.firsts_len)) c.index-head.ensures 0 in
+    omega (arith, head, head_below _ _ _ _ _ c.self.invariant frame.in_range frame.opened held c.requires.own, s.units.sizes_len, c.self.inside.sizes.ok.0)
+
+pub loop-left-init : goal.loop-left-init
+loop-left-init g c =
+    let frame = rw (← c.self.view_is) at c.requires.frame in
+    let held = rw (← c.self.view_is) at c.requires.at in
+    let s = c.self.invariant.shows in
+    let below = place_below _ _ _ _ _ c.self.invariant frame.in_range frame.opened held c.requires.own in
+    let under = head_below _ _ _ _ _ c.self.invariant frame.in_range frame.opened held c.requires.own in
+    let head : c.index-head.result.now ≡ first_at c.self.inside.firsts.items c.args.at.index = get_or_read c.self.inside.firsts.items _ _ (omega (arith, below, s.units.firsts_len)) c.index-head.ensures 0 in
+    let count : c.index-count.result.now ≡ get_or c.self.inside.sizes.items (first_at c.self.inside.firsts.items c.args.at.index) 0 =
+    get_or_read c.self.inside.sizes.items _ _ (omega (arith, under, s.units.sizes_len)) (rw head at c.index-count.ensures) 0 in
+    rw (← c.self.view_is, head, count) (starts _ _ _ _ _ c.self.invariant frame.in_range frame.opened held c.requires.own c.in_default.not-Marking)
+
+pub loosen-requires : goal.loosen-requires
+loosen-requires g c =
+    let i = c.loop-left.invariant in
+    let more = c.loop-left-test.true in
+    rw (c.deref.ensures.value, c.deref-in-loop-left.ensures.value) (record {
+      chain = chain_below i more;
+      named = last_named i more;
+      firsts = omega (arith, last_below i more, i.shows.units.firsts_len);
+      sizes = omega (arith, last_below i more, i.shows.units.sizes_len);
+      head = omega (arith, head_within i, i.shows.units.sizes_len);
+    })
+
+pub loop-left-preserved : goal.loop-left-preserved
+loop-left-preserved g c =
+    let i = c.loop-left.invariant in
+    let more = c.loop-left-test.true in
+    goes_on i more _ _ _ (rw (c.deref.ensures.value, c.deref-in-loop-left.ensures.value) at c.loosen.ensures)
+
+pub invariant_of-self-2 : goal.invariant_of-self-2
+invariant_of-self-2 g c = rw c.dissolve.ensures (ends_plain c.loop-left.invariant (omega (arith, c.loop-left-test.false)))
+
+pub returns : goal.returns
+returns g c = record {
+  entries = rw c.dissolve.ensures (ends_appends c.loop-left.invariant (omega (arith, c.loop-left-test.false)));
+  held = rw c.dissolve.ensures (ends_held c.loop-left.invariant (omega (arith, c.loop-left-test.false)));
+}

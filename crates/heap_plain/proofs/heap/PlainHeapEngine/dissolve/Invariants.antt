@@ -1,0 +1,39 @@
+use Rattle.std.proofs.Common.{◌-◌}
+use Rattle.heap_plain.specs.Parting.{IsParting}
+use Rattle.heap_plain.proofs.heap.PlainHeapEngine.dissolve.Given as goal
+
+abbrev pub invariant-loop-left : goal.invariant-loop-left
+invariant-loop-left g l = IsParting g.S.Shape.sizes l.fn.self l.lane l.at.name l.head l.count l.left (record {
+  names = l.self-inside.names.items;
+  firsts = l.self-inside.firsts.items;
+  sizes = l.self-inside.sizes.items;
+  next = l.self-inside.next.items;
+  kinds = l.self-inside.kinds.items;
+  targets = l.self-inside.targets.items;
+  plains = l.self-inside.plains.items;
+  lives = l.self-inside.lives.items;
+  roots = l.self-inside.roots.items;
+  marked = l.self-inside.marked.items;
+  work = l.self-inside.work.items;
+  scanned = l.self-inside.scanned;
+  pushed = l.self-inside.pushed;
+  free = l.self-inside.free.items;
+  spare = l.self-inside.spare.items;
+  made = l.self-inside.made.items;
+  frames = l.self-inside.frames.items;
+  phase = l.self-inside.phase;
+  left = l.self-inside.left;
+  swept = l.self-inside.swept;
+  order = l.self-inside.order.items;
+  listed = l.self-inside.listed;
+  begun = l.self-inside.begun;
+  from = l.self-inside.from;
+  kept = l.self-inside.kept;
+  polls = l.self-inside.polls.items;
+  waiting = l.self-inside.waiting.items;
+  done = l.self-inside.done;
+  garbage = l.self-inside.garbage.items;
+}) l.self-inside.diary
+
+abbrev pub decreases-loop-left : goal.decreases-loop-left
+decreases-loop-left g l = l.left - 1

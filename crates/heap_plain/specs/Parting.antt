@@ -1,0 +1,48 @@
+-- Taking a unit apart.
+use Rattle.std.specs.Prelude.{◌≡◌, ◌≢◌, ℕ, true, List, [], ◌∷◌, ◌++◌, map, length, Option, Some}
+use Rattle.std.proofs.Math.ListN.{set}
+use Rattle.world_model.specs.Sizes.{Sizes}
+use Rattle.world_model.specs.NameLists.{has}
+use Rattle.world_model.specs.World.{unit_of}
+use Rattle.world_model.specs.State.{State}
+use Rattle.world_model.specs.Histories.{Legal, after, state_of}
+use Rattle.world_model.specs.Calls.{by}
+use Rattle.world_model.proofs.Answering.{IsMidway}
+use Rattle.heap_plain.specs.Types.{Name, Marking, Lane, Entry}
+use Rattle.heap_plain.specs.Types.act
+use Rattle.heap_plain.specs.Parts.{Parts, Shown, name_at}
+use Rattle.heap_plain.specs.Listing.{chained}
+use Rattle.heap_plain.specs.Sections.{StandsAt}
+use Rattle.heap_plain.specs.Plain.{Shows}
+
+-- the object to which so many links lead from the head of a unit is one by itself, and that many stay
+pub record Loosens (names : List (Option Name)) (links : List ℕ) (head left lane : ℕ) (firsts firsts' sizes sizes' : List ℕ) (old new : List Entry) : Type 0 where
+  pub name : Name
+  pub named : name_at names (chained links head left) ≡ Some name
+  pub first : firsts' ≡ set firsts (chained links head left) (chained links head left)
+  pub size : sizes' ≡ set (set sizes (chained links head left) 1) head left
+  pub entry : new ≡ old ++ record { pass = Lane lane; act = act.Loose name } ∷ []
+
+-- the state as if no unit were being taken apart
+abbrev pub mended : State → State
+mended s = record { world = s.world; marks = s.marks; frames = λ lane. record (s.frames lane) { broken = []; loosened = [] }; slices = s.slices; collector = s.collector }
+
+-- Members have left the unit of an object since the history was `old`, and so many are left, from the head on.
+pub record IsParting (z : Sizes) (old : Shown) (lane : ℕ) (at : Name) (head count left : ℕ) (p : Parts) (history : List Entry) : Type 0 where
+  pub of : List Name
+  pub grown : history ≡ old.history ++ by (Lane lane) (map act.Loose of)
+  pub legal : Legal z history
+  pub shows : Shows z p (mended (state_of history))
+  pub front : List Name
+  pub stands : StandsAt p.names p.firsts p.sizes p.next p.lives (after history).units head front
+  pub midway : IsMidway z (state_of history) lane (unit_of (after old.history) at) front
+  pub none : ((state_of history).frames lane).broken ≡ [] → ((state_of history).frames lane).loosened ≡ []
+  pub counted : count ≡ length (unit_of (after old.history) at)
+  pub size : left ≡ length front
+  pub member : has (unit_of (after old.history) at) at ≡ true
+  pub own : at.lane ≡ lane
+  pub unmarked : p.phase ≢ Marking
+  pub names : p.names ≡ old.names
+  pub whole : ((state_of old.history).frames lane).broken ≡ []
+  pub held : (k : ℕ) → ((state_of history).frames k).held ≡ ((state_of old.history).frames k).held
+  pub others : (k : ℕ) → k ≢ lane → ((state_of history).frames k).broken ≡ []
