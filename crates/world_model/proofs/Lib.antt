@@ -32,7 +32,11 @@ pub mod Dissolving
 pub mod Answering
 pub mod Floating
 pub mod Headlines
+pub mod Decided
+pub mod Scanning
+pub mod Polls
 pub mod Garbage
+pub mod Apart
 pub mod Sharp
 pub mod Edges
 pub mod Partings

@@ -17,7 +17,7 @@ use Rattle.world_model.specs.State.{State, beginning, is_marked}
 use Rattle.world_model.specs.Next.{next_world, with_loose, next_by, next, run, lane_of, settled}
 use Rattle.world_model.specs.LaneSteps.{DrawsPair}
 use Rattle.world_model.specs.Histories.{MayBy, May, Legal, state_of, after}
-use Rattle.world_model.specs.Follows.{IsMade, is_removed, made_by, freed_by, names_made, names_released, names_released_from, UnitsAreSound, ExactlyOne, EachInOnePlace, QuotasHold, NamesOnce}
+use Rattle.world_model.specs.Follows.{IsMade, is_removed, made_by, freed_by, names_made, names_released, names_released_from, UnitsAreSound, ExactlyOne, EachInOnePlace, QuotasHold, CensusAddsUp, NamesOnce}
 use Rattle.world_model.proofs.ListFacts.{or_true, or_right, Among, among_append, among_filter, among_filter_test, among_test, contains_among}
 use Rattle.world_model.proofs.NameFacts.{same_name_refl}
 use Rattle.world_model.proofs.Units.{units_apart}
@@ -285,6 +285,9 @@ quotas_hold_holds z history legal l =
     let made_all = made_is z history legal l in
     let quota = h.quota in
     record { free_is = omega arith; occupied_is = omega arith; names = h.names; serials = h.serials }
+
+pub census_adds_up_holds : CensusAddsUp
+census_adds_up_holds z history legal l = let quota = (quotas_hold_holds z history legal l).free_is in omega arith
 
 -- ---- units
 

@@ -44,7 +44,7 @@ unscanned scanned [] = 0
 unscanned scanned (u ∷ units) = cond (list_any (has scanned) u) 0 1 + unscanned scanned units
 
 -- a unit of which a member is scanned is so whatever else is
-scanned_more : (of : Name) (scanned u : List Name) → list_any (has scanned) u ≡ true → list_any (has (of ∷ scanned)) u ≡ true
+pub scanned_more : (of : Name) (scanned u : List Name) → list_any (has scanned) u ≡ true → list_any (has (of ∷ scanned)) u ≡ true
 scanned_more of scanned [] h = h
 scanned_more of scanned (n ∷ u) h = go (or_true _ _ h) (scanned_more of scanned u)
   where
@@ -53,7 +53,7 @@ scanned_more of scanned (n ∷ u) h = go (or_true _ _ h) (scanned_more of scanne
     go (inr e) rest = or_right (has (of ∷ scanned) n) _ (rest e)
 
 -- the unit of a member that is scanned is
-own_scanned : (of : Name) (scanned u : List Name) → has u of ≡ true → list_any (has (of ∷ scanned)) u ≡ true
+pub own_scanned : (of : Name) (scanned u : List Name) → has u of ≡ true → list_any (has (of ∷ scanned)) u ≡ true
 own_scanned of scanned [] h = absurd cc
 own_scanned of scanned (n ∷ u) h = go (or_true _ _ h) (own_scanned of scanned u)
   where

@@ -160,7 +160,7 @@ staged_other w of new n b f other h =
     stays w (at_stage w of new) n b f (b + 0) (f + 0) (λ m. m) (λ m. m) refl (named_kept of (λ r. record r { stage = new }) (λ r. refl) w.removals n)
     (λ stage. is_at-at_stage_other w of new stage n other) (plus_none b) (plus_none f) h
 
-flip_name : (a b : Name) (t : Bool) → same_name a b ≡ t → same_name b a ≡ t
+pub flip_name : (a b : Name) (t : Bool) → same_name a b ≡ t → same_name b a ≡ t
 flip_name a b true e = subst (λ (x : Name). same_name b x ≡ true) (sym (same_name_true a b e)) (same_name_refl b)
 flip_name a b false e = false_from_ne_true _ (λ k. both_ways _ e (subst (λ (x : Name). same_name a x ≡ true) (sym (same_name_true b a k)) (same_name_refl a)))
 

@@ -1,19 +1,22 @@
 -- What follows from the rules, in every legal history.
-use Rattle.std.specs.Prelude.{◌≡◌, ◌≢◌, ◌↔◌, ℕ, ◌+◌, ◌<◌, ◌≤◌, ◌==◌, Bool, true, false, ◌||◌, if◌then◌else◌, ◌⊎◌, List, [], ◌∷◌, ◌++◌, map, length, count_by, Option, Some, None, IsTrue, Contains}
+use Rattle.std.specs.Prelude.{◌≡◌, ◌≢◌, ◌↔◌, ℕ, ◌+◌, ◌<◌, ◌≤◌, ◌==◌, min, Bool, true, false, not, ◌||◌, if◌then◌else◌, ◌⊎◌, ⊤, List, [], ◌∷◌, ◌++◌, map, length, count_by, Option, Some, None, Result, IsTrue, Contains}
 use Rattle.std.specs.List.{list_any, filter, flat_map, AllByRecursion}
 use Rattle.std.specs.Option.{option_to_list}
-use Rattle.world_model.specs.Types.{Name, Weak, Marked, Phase, Idle, Marking, Gathering, Pass, Lane, Marker, Collector, Act, Entry}
+use Rattle.world_model.specs.Types.{Name, Weak, Kind, CreateErr, Begin, Commit, Marked, SweepStop, Purged, Phase, Idle, Marking, Gathering, Pass, Lane, Marker, Collector, Act, Entry}
 use Rattle.world_model.specs.Types.act
 use Rattle.world_model.specs.Types.begin
 use Rattle.world_model.specs.Types.commit
+use Rattle.world_model.specs.Types.sweep
+use Rattle.world_model.specs.Types.purge
 use Rattle.world_model.specs.Sizes.{Sizes, IsLawful}
 use Rattle.world_model.specs.NameLists.{same_name, same_pass, has, all_different, members, begins_with, ends_with, parted, names_from}
-use Rattle.world_model.specs.World.{World, Pair, Removed, Begun, Finished, unit_of, in_world, is_given, is_open, made, occupied, free, resolved, drawn, is_at}
+use Rattle.world_model.specs.World.{World, Pair, Removed, Begun, Finished, unit_of, in_world, is_given, is_open, made, live_count, removed_count, occupied, free, resolved, drawn, is_at}
 use Rattle.world_model.specs.Reach.{Graph, graph, IsUnit, Refers, IsRootUnit, Walk, IsReached}
 use Rattle.world_model.specs.State.{State, beginning, Holds, IsMarked, is_marked, is_grey, grey_units}
 use Rattle.world_model.specs.Next.{lane_of, given, next}
-use Rattle.world_model.specs.Histories.{state_of, after, Legal}
+use Rattle.world_model.specs.Histories.{May, state_of, after, Legal}
 use Rattle.world_model.specs.Calls.{Appends, Collects}
+use Rattle.world_model.specs.Engines.{act_of_create}
 use Rattle.world_model.specs.Laws.{started, done}
 
 -- ---- words
@@ -186,6 +189,20 @@ abbrev pub NoWhiteReached : Type 0
 NoWhiteReached = (z : Sizes) (history : List Entry) → Legal z history → (after history).phase ≡ Marking → grey_units (state_of history) ≡ [] → RootsMarked (state_of history)
     → (u : List Name) → IsReached (graph (after history)) u → IsTrue (is_marked (state_of history).marks u)
 
+-- none of these entries starts a collection
+abbrev pub NoneStarts : List Entry → Type 0
+NoneStarts entries = AllByRecursion (λ e. is_start e.act ≡ false) entries
+
+-- the entry tells that a unit with this object was scanned
+abbrev pub scans : List Name → Act → Bool
+scans u (act.Scanned of) = has u of
+scans u _ = false
+
+-- Since a collection has started no unit is scanned twice.
+abbrev pub ScannedOnce : Type 0
+ScannedOnce = (z : Sizes) (before during : List Entry) → Legal z (before ++ started ∷ during) → NoneStarts during
+    → (n : Name) → IsTrue (in_world (after (before ++ started ∷ during)) n) → count_by (λ e. scans (unit_of (after (before ++ started ∷ during)) n) e.act) during ≤ 1
+
 -- A solo start of a collection marks each root unit.
 abbrev pub StartMarksRoots : Type 0
 StartMarksRoots = (z : Sizes) (old new : List Entry) → Appends z old new Collector (act.BeginGc begin.Started) → RootsMarked (state_of new)
@@ -325,6 +342,29 @@ pub record ReleasesUnit (history : List Entry) (of : Name) : Type 0 where
 abbrev pub ReleasedWhole : Type 0
 ReleasedWhole = (z : Sizes) (history : List Entry) (of : Name) → Legal z (history ++ entry Collector (act.Released of) ∷ []) → ReleasesUnit history of
 
+-- a history ends with an act of the collector, behind which others acted
+pub record EndsWith (history : List Entry) (a : Act) : Type 0 where
+  pub front : List Entry
+  pub others : List Entry
+  pub are : history ≡ front ++ entry Collector a ∷ others
+  pub other : AllByRecursion (λ e. e.pass ≢ Collector) others
+
+-- An object is finished directly behind its own poll, in which it agreed.
+abbrev pub FinishedBehindPoll : Type 0
+FinishedBehindPoll = (z : Sizes) (history : List Entry) (of : Name) → Legal z (history ++ entry Collector (act.Finished of) ∷ []) → (poll : ℕ) × EndsWith history (act.Asked of poll true)
+
+abbrev pub asks : Name → Act → Bool
+asks n (act.Asked of poll answer) = same_name n of
+asks n _ = false
+
+-- how often a history asks an object
+abbrev pub times_asked : List Entry → Name → ℕ
+times_asked history n = count_by (λ e. asks n e.act) history
+
+-- The polls of an object are numbered 1, 2, 3 and so on, up to 65,535, at which the number stays.
+abbrev pub PollsAreNumbered : Type 0
+PollsAreNumbered = (z : Sizes) (history : List Entry) (of : Name) (poll : ℕ) (answer : Bool) → Legal z (history ++ entry Collector (act.Asked of poll answer) ∷ []) → poll ≡ min (times_asked history of + 1) 65535
+
 -- While a collection marks, and so from its start on, every removed object is released.
 abbrev pub ReleasedBeforeStart : Type 0
 ReleasedBeforeStart = (z : Sizes) (history : List Entry) → Legal z history → (after history).phase ≡ Marking → (after history).removals ≡ []
@@ -381,6 +421,38 @@ GarbageIsMarked = (z : Sizes) (history : List Entry) → Legal z history → (n 
 -- What is garbage stays so.
 abbrev pub GarbageLasts : Type 0
 GarbageLasts = (z : Sizes) (before more : List Entry) → Legal z (before ++ more) → (n : Name) → IsTrue ((after before).garbage n) → IsTrue ((after (before ++ more)).garbage n)
+
+-- the acts that change or tell what is garbage
+abbrev pub is_of_garbage : Act → Bool
+is_of_garbage (act.MarkGarbage at old) = true
+is_of_garbage (act.IsValid at valid) = true
+is_of_garbage (act.Resolve pair got) = true
+is_of_garbage _ = false
+
+-- the one state leaves of the world what the other leaves, but for what is garbage, and the same units are kept, made and scanned
+pub record SameButGarbage (s t : State) : Type 0 where
+  pub world : t.world ≡ record s.world { garbage = t.world.garbage }
+  pub kept : t.marks.kept ≡ s.marks.kept
+  pub fresh : t.marks.fresh ≡ s.marks.fresh
+  pub scanned : t.marks.scanned ≡ s.marks.scanned
+
+-- To mark an object as garbage, and to ask for it, changes nothing else: neither what is reached, nor which units are marked or grey, and so nothing of what is collected.
+abbrev pub MarksChangeNothing : Type 0
+MarksChangeNothing = (z : Sizes) (history : List Entry) (e : Entry) → Legal z (history ++ e ∷ []) → IsTrue (is_of_garbage e.act) → SameButGarbage (state_of history) (state_of (history ++ e ∷ []))
+
+-- the state with other objects marked as garbage
+abbrev pub with_garbage : State → (Name → Bool) → State
+with_garbage s garbage = record s { world = record s.world { garbage = garbage } }
+
+-- the entry may come exactly where it may with other objects marked as garbage, and leaves the same but for these
+pub record IsApartFromGarbage (z : Sizes) (s : State) (e : Entry) (garbage : Name → Bool) : Type 0 where
+  pub may : May z s e ↔ May z (with_garbage s garbage) e
+  pub left : SameButGarbage (next s e) (next (with_garbage s garbage) e)
+  pub stays : (next s e).world.garbage ≡ s.world.garbage
+
+-- No other entry hangs on what is garbage: marking, removal and destruction go as they would without.
+abbrev pub GarbageDecidesNothing : Type 0
+GarbageDecidesNothing = (z : Sizes) (s : State) (e : Entry) → is_of_garbage e.act ≡ false → (garbage : Name → Bool) → IsApartFromGarbage z s e garbage
 
 -- ---- taking a unit apart
 
@@ -502,6 +574,10 @@ pub record KeepsQuota (z : Sizes) (history : List Entry) (lane : ℕ) : Type 0 w
 abbrev pub QuotasHold : Type 0
 QuotasHold = (z : Sizes) (history : List Entry) → Legal z history → (lane : ℕ) → KeepsQuota z history lane
 
+-- So the numbers of a census add up: of each lane the indexes that are free, the objects that live, and those that are removed and not released are the quota together.
+abbrev pub CensusAddsUp : Type 0
+CensusAddsUp = (z : Sizes) (history : List Entry) → Legal z history → (lane : ℕ) → free z (after history) lane + live_count (after history) lane + removed_count (after history) lane ≡ z.quota
+
 -- no name is given twice, and a name is given exactly where the object was made
 pub record GivesNamesOnce (history : List Entry) : Type 0 where
   pub once : IsTrue (all_different (names_made history))
@@ -515,12 +591,78 @@ abbrev pub SerialsOnce : Type 0
 SerialsOnce = (z : Sizes) → IsLawful z → (history : List Entry) → Legal z history → (p q : Pair)
     → Contains (after history).pairs p → Contains (after history).pairs q → p.weak.serial ≡ q.weak.serial → p ≡ q
 
+-- ---- answers
+
+abbrev pub is_started : Begin → Bool
+is_started begin.Started = true
+is_started _ = false
+
+abbrev pub is_committed : Commit → Bool
+is_committed commit.Done = true
+is_committed _ = false
+
+abbrev pub is_not_gathering : SweepStop → Bool
+is_not_gathering (sweep.NotGathering phase) = true
+is_not_gathering _ = false
+
+abbrev pub is_gathering : Purged → Bool
+is_gathering purge.Gathering = true
+is_gathering _ = false
+
+-- the act tells that a call was refused
+abbrev pub is_refusal : Act → Bool
+is_refusal (act.Full asked left) = true
+is_refusal (act.NamesSpent asked left) = true
+is_refusal (act.NoSerial at count) = true
+is_refusal (act.NoDissolve at) = true
+is_refusal (act.BeginGc reply) = not (is_started reply)
+is_refusal (act.CommitGc reply) = not (is_committed reply)
+is_refusal (act.Sweep budget reply names) = is_not_gathering reply.stop
+is_refusal (act.PurgeGc budget reply) = is_gathering reply
+is_refusal _ = false
+
+-- A refusal leaves the world as it was.
+abbrev pub RefusalsChangeNothing : Type 0
+RefusalsChangeNothing = (z : Sizes) (history : List Entry) (e : Entry) → Legal z (history ++ e ∷ []) → IsTrue (is_refusal e.act) → after (history ++ e ∷ []) ≡ after history
+
+-- What the collector is told when it asks for a start is decided by the world: no two answers can come next.
+abbrev pub BeginIsDecided : Type 0
+BeginIsDecided = (z : Sizes) (history : List Entry) (a b : Begin) → Legal z (history ++ entry Collector (act.BeginGc a) ∷ []) → Legal z (history ++ entry Collector (act.BeginGc b) ∷ []) → a ≡ b
+
+-- two answers to a commit are one, but for the row word that shows some of the grey units
+abbrev pub SameCommit : Commit → Commit → Type 0
+SameCommit (commit.Unfinished word bits) (commit.Unfinished other others) = ⊤
+SameCommit a b = a ≡ b
+
+-- So is what a commit that runs alone is told.
+abbrev pub CommitIsDecided : Type 0
+CommitIsDecided = (z : Sizes) (old new other : List Entry) (a b : Commit) → Appends z old new Collector (act.CommitGc a) → Appends z old other Collector (act.CommitGc b) → SameCommit a b
+
+-- And so is whether objects of these kinds are made, and why not.
+abbrev pub CreateIsDecided : Type 0
+CreateIsDecided = (z : Sizes) (history : List Entry) (lane : ℕ) (kinds : List Kind) (a b : Result (Unit {0}) CreateErr)
+    → Legal z (history ++ entry (Lane lane) (act_of_create (after history) lane kinds a) ∷ []) → Legal z (history ++ entry (Lane lane) (act_of_create (after history) lane kinds b) ∷ []) → a ≡ b
+
 -- ---- the headline
 
--- a collection removes only whole units that no root reaches, each object is begun at most once and then finished at most once, and a weak pointer gives its own object until its removal or marking as garbage and nothing after
+-- an object that lived lives no more: the entry is a commit, no root reached the object's unit, and that goes whole to the removed ones
+pub record IsRemovedWhole (before now : World) (e : Entry) (n : Name) : Type 0 where
+  pub commit : e ≡ done
+  pub unreached : IsReached (graph before) (unit_of before n) → ⊥
+  pub listed : Contains now.last_removed (unit_of before n)
+  pub gone : (m : Name) → IsTrue (has (unit_of before n) m) → in_world now m ≡ false
+
+-- A collection removes only whole units that no root reaches, each removed object is begun at most once and then finished at most once, and a weak pointer gives its own object until its removal or marking as garbage and nothing after.
 pub record Headline (z : Sizes) (history : List Entry) : Type 0 where
-  pub removes : (e : Entry) → Legal z (history ++ e ∷ []) → KeepsOrRemoves (after history) (after (history ++ e ∷ [])) e
+  -- each object that lives does so after an entry too, or that is a commit, and its whole unit, which no root reached, goes
+  pub removes : (e : Entry) → Legal z (history ++ e ∷ []) → (n : Name) → IsTrue (in_world (after history) n)
+      → IsTrue (in_world (after (history ++ e ∷ [])) n) ⊎ IsRemovedWhole (after history) (after (history ++ e ∷ [])) e n
+  -- what has left the world never comes back
+  pub gone : (more : List Entry) → Legal z (history ++ more) → (n : Name) → IsMade (after history) n → in_world (after history) n ≡ false → in_world (after (history ++ more)) n ≡ false
+  -- what lives was neither begun nor finished; what is removed is begun at most once, and finished at most once and not before
+  pub spares : (n : Name) → IsTrue (in_world (after history) n) → WasDestroyed history n 0 0
   pub destroys : (n : Name) → (times_begun history n ≤ 1) × (times_finished history n ≤ times_begun history n)
+  -- a weak pointer gives an object exactly where it was given for that, and that lives and is not garbage
   pub resolves : (lane : ℕ) (pair : Weak) (got : Option Name) → Legal z (history ++ entry (Lane lane) (act.Resolve pair got) ∷ [])
       → (n : Name) → (got ≡ Some n) ↔ Gives history pair n
 

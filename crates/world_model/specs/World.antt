@@ -95,9 +95,16 @@ refs_of w n = option_map_or (λ k. k.refs) (kind_of w n) 0
 abbrev pub plain_of : World → Name → ℕ
 plain_of w n = option_map_or (λ k. k.plain) (kind_of w n) 0
 
--- how many objects of a lane are made and not released: those that live, and those that are removed
+-- how many objects of a lane live, and how many are removed and not released
+abbrev pub live_count : World → ℕ → ℕ
+live_count w lane = count_by (λ n. n.lane == lane) (members w.units)
+
+abbrev pub removed_count : World → ℕ → ℕ
+removed_count w lane = count_by (λ r. r.name.lane == lane) w.removals
+
+-- how many objects of a lane are made and not released
 abbrev pub occupied : World → ℕ → ℕ
-occupied w lane = count_by (λ n. n.lane == lane) (members w.units) + count_by (λ r. r.name.lane == lane) w.removals
+occupied w lane = live_count w lane + removed_count w lane
 
 -- how many indexes of a lane are free
 abbrev pub free : Sizes → World → ℕ → ℕ

@@ -5,17 +5,19 @@ ghost use Rattle.world_model.specs.Follows.{HeldLives, GivenIsHeld, HeldWithUnit
 ghost use Rattle.world_model.specs.Follows.{RemovedAfter, NoneComesBack, UnitStays};
 ghost use Rattle.world_model.specs.Follows.{UnitsNeverJoin, OwnUnitsStay};
 ghost use Rattle.world_model.specs.Follows.{UnitsAreSound, EachInOnePlace};
-ghost use Rattle.world_model.specs.Follows.{BlackRefersToMarked, NoWhiteReached, StartMarksRoots};
+ghost use Rattle.world_model.specs.Follows.{BlackRefersToMarked, NoWhiteReached, ScannedOnce, StartMarksRoots};
 ghost use Rattle.world_model.specs.Follows.{RootsStayMarked, CommitRuleFollows};
 ghost use Rattle.world_model.specs.Follows.{ReachedStay, CommitRemovesUnreached};
 ghost use Rattle.world_model.specs.Follows.{FloatingIsBounded, UnreachedIsRemoved};
 ghost use Rattle.world_model.specs.Follows.{DestroyedOnce, DestroyedByStage, AllBegunFirst};
-ghost use Rattle.world_model.specs.Follows.{BegunWhenFinished, ReleasedWhole, ReleasedBeforeStart};
+ghost use Rattle.world_model.specs.Follows.{BegunWhenFinished, FinishedBehindPoll, PollsAreNumbered, ReleasedWhole, ReleasedBeforeStart};
 ghost use Rattle.world_model.specs.Follows.{WeakPointers, ResolveGives, ResolveGivesNoneAgain};
 ghost use Rattle.world_model.specs.Follows.{GarbageIsMarked, GarbageLasts};
+ghost use Rattle.world_model.specs.Follows.{MarksChangeNothing, GarbageDecidesNothing};
 ghost use Rattle.world_model.specs.Follows.{TakenApart, DissolvesUnit, DissolveAnswers, StaysAlone, CollectedSingly};
 ghost use Rattle.world_model.specs.Follows.{OpenKeeps, OwnStays, OwnJoins, FewOpen};
-ghost use Rattle.world_model.specs.Follows.{QuotasHold, NamesOnce, SerialsOnce};
+ghost use Rattle.world_model.specs.Follows.{QuotasHold, CensusAddsUp, NamesOnce, SerialsOnce};
+ghost use Rattle.world_model.specs.Follows.{RefusalsChangeNothing, BeginIsDecided, CommitIsDecided, CreateIsDecided};
 
 /// A collection removes only whole units that no root reaches, each object is begun at most once
 /// and then finished at most once, and a weak pointer gives its own object until its removal or
@@ -113,6 +115,11 @@ pub fn no_white_reached()
     ensures { NoWhiteReached }
 {}
 
+/// Since a collection has started no unit is scanned twice.
+pub fn scanned_once()
+    ensures { ScannedOnce }
+{}
+
 /// A solo start of a collection marks each root unit.
 pub fn start_marks_roots()
     ensures { StartMarksRoots }
@@ -175,6 +182,17 @@ pub fn begun_when_finished()
     ensures { BegunWhenFinished }
 {}
 
+/// An object is finished directly behind its own poll, in which it agreed: no other act of the
+/// collector stands between.
+pub fn finished_behind_poll()
+    ensures { FinishedBehindPoll }
+{}
+
+/// The polls of an object are numbered 1, 2, 3 and so on, up to 65,535, at which the number stays.
+pub fn polls_are_numbered()
+    ensures { PollsAreNumbered }
+{}
+
 /// A release takes one removed unit, whole, and each of its members was begun once and finished
 /// once.
 pub fn released_whole()
@@ -216,6 +234,18 @@ pub fn garbage_is_marked()
 /// What is garbage stays so.
 pub fn garbage_lasts()
     ensures { GarbageLasts }
+{}
+
+/// To mark an object as garbage changes nothing of what is reached or collected: the world stays as it
+/// was but for the mark, and so do the units that count as marked or grey.
+pub fn marks_change_nothing()
+    ensures { MarksChangeNothing }
+{}
+
+/// Nothing but marking as garbage, asking for it and resolving a weak pointer hangs on what is garbage:
+/// every other entry may come exactly where it may without, and leaves the same.
+pub fn garbage_decides_nothing()
+    ensures { GarbageDecidesNothing }
 {}
 
 // ---- taking a unit apart
@@ -281,6 +311,12 @@ pub fn quotas_hold()
     ensures { QuotasHold }
 {}
 
+/// The numbers of a lane's census add up: its free indexes, its objects that live and those that are
+/// removed and not released are its quota together.
+pub fn census_adds_up()
+    ensures { CensusAddsUp }
+{}
+
 /// No name is given twice, and what was given is what was made.
 pub fn names_once()
     ensures { NamesOnce }
@@ -289,4 +325,27 @@ pub fn names_once()
 /// No serial is given to two objects.
 pub fn serials_once()
     ensures { SerialsOnce }
+{}
+
+// ---- answers
+
+/// A refusal leaves the world as it was.
+pub fn refusals_change_nothing()
+    ensures { RefusalsChangeNothing }
+{}
+
+/// What the collector is told when it asks for a start is decided by the world.
+pub fn begin_is_decided()
+    ensures { BeginIsDecided }
+{}
+
+/// What a commit is told that runs alone is decided by the world, but for the row word that shows some
+/// of the grey units.
+pub fn commit_is_decided()
+    ensures { CommitIsDecided }
+{}
+
+/// Whether objects of these kinds are made, and why not, is decided by the world.
+pub fn create_is_decided()
+    ensures { CreateIsDecided }
 {}
