@@ -1,5 +1,5 @@
 -- Solo calls: the entries of one call while nothing else runs.
-use Rattle.std.specs.Prelude.{◌≡◌, ◌≢◌, ◌↔◌, ℕ, ◌<◌, Bool, true, false, ◌⊎◌, List, [], ◌∷◌, ◌++◌, map, count_by, IsTrue}
+use Rattle.std.specs.Prelude.{◌≡◌, ◌≢◌, ◌↔◌, ℕ, ◌<◌, Bool, true, false, ◌⊎◌, List, [], ◌∷◌, ◌++◌, map, count_by, IsTrue, ⊤}
 use Rattle.std.specs.List.{list_any, list_all, flat_map, AllByRecursion}
 use Rattle.world_model.specs.Types.{Name, Marked, Commit, Purged, Marking, Pass, Lane, Marker, Collector, Act, Entry}
 use Rattle.world_model.specs.Types.act
@@ -10,7 +10,7 @@ use Rattle.world_model.specs.Types.purge
 use Rattle.world_model.specs.Sizes.{Sizes}
 use Rattle.world_model.specs.NameLists.{has}
 use Rattle.world_model.specs.World.{World, unit_of}
-use Rattle.world_model.specs.Reach.{graph, IsUnit, IsRootUnit}
+use Rattle.world_model.specs.Reach.{graph, IsUnit, Refers, IsRootUnit}
 use Rattle.world_model.specs.State.{State, grey_units}
 use Rattle.world_model.specs.Next.{run}
 use Rattle.world_model.specs.Histories.{state_of, Legal}
@@ -36,11 +36,24 @@ is_mark_note (act.Kept of) = true
 is_mark_note (act.Scanned of) = true
 is_mark_note _ = false
 
--- a slice is idle exactly where its budget is not spent and nothing is grey
+-- one of these notes tells that a unit was scanned which refers to that of this object
+abbrev pub IsScannedFor : World → Name → List Act → Type 0
+IsScannedFor w of [] = ⊥
+IsScannedFor w of (act.Scanned from ∷ notes) = Refers (graph w) (unit_of w from) (unit_of w of) ⊎ IsScannedFor w of notes
+IsScannedFor w of (note ∷ notes) = IsScannedFor w of notes
+
+-- each note that a unit is kept is followed by one that tells why
+abbrev pub KeepsForScans : World → List Act → Type 0
+KeepsForScans w [] = ⊤
+KeepsForScans w (act.Kept of ∷ notes) = IsScannedFor w of notes × KeepsForScans w notes
+KeepsForScans w (note ∷ notes) = KeepsForScans w notes
+
+-- a slice keeps nothing but that to which units refer that it scans; and it is idle exactly where its budget is not spent and nothing is grey
 pub record SlicesAlone (s : State) (marker budget : ℕ) (reply : Marked) (acts : List Act) : Type 0 where
   pub notes : List Act
   pub are : acts ≡ (act.SliceOpen ∷ notes) ++ act.Slice budget reply ∷ []
   pub only : IsTrue (list_all is_mark_note notes)
+  pub needed : KeepsForScans s.world notes
   pub idle : (reply.stop ≡ stop.Idle) ↔ ((reply.scanned < budget) × (grey_units (run s (by (Marker marker) (act.SliceOpen ∷ notes))) ≡ []))
 
 abbrev pub is_unfinished : Commit → Bool

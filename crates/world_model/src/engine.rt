@@ -8,7 +8,7 @@ ghost use Rattle.world_model.specs.NameLists.{names_from};
 ghost use Rattle.world_model.specs.World.{is_open, made, kind_of, refs_of, plain_of, left_of};
 ghost use Rattle.world_model.specs.State.{Holds};
 ghost use Rattle.world_model.specs.LaneSteps.{is_lawful};
-ghost use Rattle.world_model.specs.Histories.{state_of, after};
+ghost use Rattle.world_model.specs.Histories.{state_of, after, Legal};
 ghost use Rattle.world_model.specs.Calls.{Appends};
 ghost use Rattle.world_model.specs.Hooks.{SameTest, AreCalled, MeetTest};
 ghost use Rattle.world_model.specs.Engines.{IsInFrame, no_slice, KeepsHeld, KeepsOthers, act_of_create, act_of_dissolve, name_of};
@@ -23,7 +23,7 @@ use crate::shape::Shape;
 /// A world of objects, whichever way it is kept.
 ///
 /// An engine means two things: its history, which is legal after every call, and for each lane the
-/// references that its open frame holds. Every call but `kind_of`, `phase` and `left` adds to the
+/// references that its open frame holds. Every call but `lawful`, `kind_of`, `phase` and `left` adds to the
 /// history the entries of that call alone, the last of which carries its answer; so the conditions
 /// under which an entry may stand there are the causes of the answer. What a lane holds it holds
 /// until it closes its frame.
@@ -33,6 +33,12 @@ pub trait Engine<S: Shape> {
 
     /// Which references the open frame of a lane holds.
     ghost holds: { Self → ℕ → Ref → Type 0 };
+
+    /// Does nothing: its contract tells the caller what is true of every engine at any moment. The
+    /// history is legal, and no slice is open, since each call closes the slice that it opens.
+    fn lawful(&self)
+        ensures legal { Legal S.sizes (history self.now) }
+        ensures closed { IsTrue (no_slice (after (history self.now))) };
 
     /// Opens the frame of a lane, and tells the phase that it found. While a frame is open, no
     /// collection begins or commits.
@@ -161,7 +167,6 @@ pub trait Engine<S: Shape> {
     /// nothing is grey. The budget is tested before each unit, which is scanned whole.
     fn mark(&mut self, marker: u32, budget: u32) -> Marked
         requires marker { marker < S.sizes.markers }
-        requires alone { IsTrue (no_slice (after (history self.old))) }
         ensures entries { Appends S.sizes (history self.old) (history self.new) (Marker marker) (act.Slice budget result) }
         ensures held { KeepsHeld (holds self.old) (holds self.new) };
 
