@@ -1,8 +1,9 @@
 -- A unit is taken apart by one call.
-use Rattle.std.proofs.Common.{◌≡◌, ◌≢◌, ℕ, ◌-◌, ◌<◌, ◌≤◌, suc, refl, sym, subst, ap, ◌∙◌, arith, true, List, [], ◌∷◌, ◌++◌, map, length, append_assoc, append-nil, get_or, Option, Some, IsSome, is_some}
+use Rattle.std.proofs.Common.{◌≡◌, ◌≢◌, ℕ, ◌-◌, ◌<◌, ◌≤◌, suc, refl, sym, subst, ap, ◌∙◌, inr, arith, true, List, [], ◌∷◌, ◌++◌, map, length, append_assoc, append-nil, get_or, Option, Some, IsSome, is_some}
 use Rattle.std.proofs.Math.ListN.{set}
 use Rattle.std.proofs.Math.Logic.{dite}
-use Rattle.std.proofs.Math.Decide.{ℕ_discrete}
+use Rattle.std.proofs.Math.Decide.{ℕ_discrete, dec_le}
+use Rattle.std.proofs.Math.Nat.{lt_of_not-le}
 use Rattle.world_model.specs.Sizes.{Sizes, item_count}
 use Rattle.world_model.specs.NameLists.{has, ends_with, but_last}
 use Rattle.world_model.specs.World.{is_open, unit_of}
@@ -21,13 +22,17 @@ use Rattle.heap_plain.specs.Types.{Name, Ref, Lane, Marking, Entry}
 use Rattle.heap_plain.specs.Types.act
 use Rattle.heap_plain.specs.declared.life.Life.{Life}
 use Rattle.heap_plain.specs.Parts.{Parts, Shown, Holds, name_at, first_at}
-use Rattle.heap_plain.specs.Listing.{chained}
-use Rattle.heap_plain.specs.Sections.{HeldShow, UnitsShow, GoneShow, StandsAt}
+use Rattle.heap_plain.specs.Filling.{Filled}
+use Rattle.heap_plain.specs.Listing.{chained, chain}
+use Rattle.heap_plain.specs.Sections.{HeldShow, UnitsShow, GoneShow, StandsAt, WorkShows}
 use Rattle.heap_plain.specs.Plain.{Shows, IsPlain}
-use Rattle.heap_plain.specs.Parting.{Loosens, IsParting, mended}
+use Rattle.heap_plain.specs.Parting.{IsParting, mended}
 use Rattle.heap_plain.proofs.WorldFacts.{at_set, set_at_other}
+use Rattle.heap_plain.proofs.Fillings.{from_start}
 use Rattle.heap_plain.proofs.Entries.{plain_more, holds_more}
 use Rattle.heap_plain.proofs.Refusals.{held_same, keeps_held}
+use Rattle.heap_plain.proofs.Listings.{linked_named, length-chain}
+use Rattle.heap_plain.proofs.Gathering.{distinct_unit, few_named}
 use Rattle.heap_plain.proofs.Standing.{member_at, name_below}
 use Rattle.heap_plain.proofs.MarkSlices.{linked_member}
 use Rattle.heap_plain.proofs.PartSteps.{named_last, front_size, units_left, distinct_left, gone_left, free_left, stands_front}
@@ -45,65 +50,98 @@ held_as held owed whole s = record {
   whole = whole;
 }
 
--- the vectors show the state as if no unit were being taken apart
-mend : (z : Sizes) (p : Parts) (s : State) → Shows z p s → Shows z p (mended s)
-mend z p s h = record {
-  phase = h.phase;
-  frames = h.frames;
-  names = h.names;
-  units = h.units;
-  distinct = h.distinct;
-  roots = h.roots;
-  held = held_as (λ k. refl) (λ k. refl) (λ k. refl) h.held;
-  work = h.work;
-  idle = h.idle;
-  marks = h.marks;
-  roots_marked = h.roots_marked;
-  kinds = h.kinds;
-  cells = h.cells;
-  black = h.black;
-  removed = h.removed;
-  gone = h.gone;
-  order = h.order;
-  gathers = h.gathers;
-  queue = h.queue;
-  free = h.free;
-  none_agreed = h.none_agreed;
-  none_asked = h.none_asked;
-  no_steps = h.no_steps;
-  garbage = h.garbage;
-}
-
 -- ---- the start
 
 module _ (z : Sizes) (p : Parts) (h : List Entry) (l : ℕ) (at : Ref) (was : IsPlain z p h) (lane : l < z.lanes) (opened : is_open (after h) (Lane l) ≡ true) (held : Holds record { history = h; names = p.names } l at) (own : at.name.lane ≡ l) where
   abbrev s : Shows z p (state_of h)
   s = was.shows
 
-  pub starts : p.phase ≢ Marking → IsParting z (record { history = h; names = p.names }) l at.name (first_at p.firsts at.index) (get_or p.sizes (first_at p.firsts at.index) 0) (get_or p.sizes (first_at p.firsts at.index) 0) p h
-  starts unmarked =
-      let unit_is = root.unit_is z p h l at was lane opened held in
-      let stands = root.stands z p h l at was lane opened held in
-      let ask : MayAsk (state_of h) l at.name = record { held = held.given; own = own; none_owed = s.held.paid l; none_broken = s.held.whole l } in
-      record {
-        of = [];
-        grown = sym (append-nil h);
-        legal = was.legal;
-        shows = mend z p (state_of h) s;
-        front = root.u z p h l at was lane opened held;
-        stands = stands;
-        midway = subst (λ (u : List Name). IsMidway z (state_of h) l (unit_of (after h) at.name) u) unit_is (starts_midway z h l at.name was.legal lane ask (λ e. unmarked (s.phase ∙ e)));
-        none = λ e. none_loosened z h was.legal l e;
-        counted = stands.size ∙ ap (λ (u : List Name). length u) (sym unit_is);
-        size = stands.size;
-        member = ap (λ (u : List Name). has u at.name) unit_is ∙ root.member z p h l at was lane opened held;
-        own = own;
-        unmarked = unmarked;
-        names = refl;
-        whole = s.held.whole l;
-        held = λ k. refl;
-        others = λ k ne. s.held.whole k;
-      }
+  abbrev head : ℕ
+  head = first_at p.firsts at.index
+
+  abbrev count : ℕ
+  count = get_or p.sizes head 0
+
+  abbrev u : List Name
+  u = root.u z p h l at was lane opened held
+
+  stands : StandsAt p.names p.firsts p.sizes p.next p.lives (after h).units head u
+  stands = root.stands z p h l at was lane opened held
+
+  -- the members are different, so that there is a place for each
+  pub members_below : (k : ℕ) → k < count → chained p.next head k < item_count z
+  members_below k b = let r = linked_member p.names p.next head u stands.linked k (omega (arith, stands.size)) in omega (arith, name_below p.names (chained p.next head k) r.0 r.1, s.names.items)
+
+  pub room : count ≤ item_count z
+  room =
+      let few = few_named p.names (chain p.next head (length u)) u (linked_named p.names p.next head u stands.linked) (distinct_unit (after h).units u s.distinct stands.among) in
+      omega (arith, stands.size, length-chain p.next head (length u), s.names.items)
+
+  module _ (unmarked : p.phase ≢ Marking) (work' : List ℕ) (listed : Filled p.work work' 0 count (chained p.next head)) where
+    work_listed : WorkShows z p.marked work' p.scanned p.pushed
+    work_listed = record {
+      marked_len = s.work.marked_len;
+      work_len = listed.len ∙ s.work.work_len;
+      order = s.work.order;
+      few = s.work.few;
+      entries = λ k b. dite (dec_le count k)
+          (λ (out : count ≤ k). omega (arith, listed.outside k 0 (inr (omega arith)), s.work.entries k b))
+          (λ (no : ¬ (count ≤ k)). let inside : k < count = lt_of_not-le no in omega (arith, from_start listed k 0 inside, members_below k inside));
+    }
+
+    shows_listed : Shows z (record p { work = work' }) (mended (state_of h))
+    shows_listed = record {
+      phase = s.phase;
+      frames = s.frames;
+      names = s.names;
+      units = s.units;
+      distinct = s.distinct;
+      roots = s.roots;
+      held = held_as (λ k. refl) (λ k. refl) (λ k. refl) s.held;
+      work = work_listed;
+      idle = s.idle;
+      marks = λ m. absurd (unmarked m);
+      roots_marked = λ m. absurd (unmarked m);
+      kinds = s.kinds;
+      cells = s.cells;
+      black = λ m. absurd (unmarked m);
+      removed = s.removed;
+      gone = s.gone;
+      order = s.order;
+      gathers = s.gathers;
+      queue = s.queue;
+      free = s.free;
+      none_agreed = s.none_agreed;
+      none_asked = s.none_asked;
+      no_steps = s.no_steps;
+      garbage = s.garbage;
+    }
+
+    pub starts : IsParting z (record { history = h; names = p.names }) l at.name head count count (record p { work = work' }) h
+    starts =
+        let unit_is = root.unit_is z p h l at was lane opened held in
+        let ask : MayAsk (state_of h) l at.name = record { held = held.given; own = own; none_owed = s.held.paid l; none_broken = s.held.whole l } in
+        record {
+          of = [];
+          grown = sym (append-nil h);
+          legal = was.legal;
+          shows = shows_listed;
+          front = u;
+          stands = stands;
+          midway = subst (λ (v : List Name). IsMidway z (state_of h) l (unit_of (after h) at.name) v) unit_is (starts_midway z h l at.name was.legal lane ask (λ e. unmarked (s.phase ∙ e)));
+          none = λ e. none_loosened z h was.legal l e;
+          counted = stands.size ∙ ap (λ (v : List Name). length v) (sym unit_is);
+          size = stands.size;
+          room = omega (arith, room, listed.len, s.work.work_len);
+          listed = λ k b. from_start listed k 0 b;
+          member = ap (λ (v : List Name). has v at.name) unit_is ∙ root.member z p h l at was lane opened held;
+          own = own;
+          unmarked = unmarked;
+          names = refl;
+          whole = s.held.whole l;
+          held = λ k. refl;
+          others = λ k ne. s.held.whole k;
+        }
 
   pub head_below : first_at p.firsts at.index < item_count z
   head_below = root.head_below z p h l at was lane opened held
@@ -167,20 +205,20 @@ module _ {z : Sizes} {old : Shown} {lane : ℕ} {at : Name} {head count left : �
   abbrev next_to : ℕ
   next_to = left - 1
 
-  -- what the walk asks
-  pub chain_below : 1 < left → (j : ℕ) → j < next_to → chained p.next head j < length p.next
-  chain_below more j b =
-      let r = linked_member p.names p.next head i.front i.stands.linked j (let s = i.size in omega arith) in
-      omega (arith, name_below p.names (chained p.next head j) r.0 r.1, k.names.items, k.units.links_len)
+  abbrev gone_to : ℕ
+  gone_to = chained p.next head next_to
 
-  last_member : 1 < left → (n : Name) × (name_at p.names (chained p.next head next_to) ≡ Some n) × (has i.front n ≡ true)
+  pub last_listed : 1 < left → get_or p.work next_to 0 ≡ gone_to
+  last_listed more = i.listed next_to (omega arith)
+
+  last_member : 1 < left → (n : Name) × (name_at p.names gone_to ≡ Some n) × (has i.front n ≡ true)
   last_member more = linked_member p.names p.next head i.front i.stands.linked next_to (let s = i.size in omega arith)
 
-  pub last_named : 1 < left → IsSome (name_at p.names (chained p.next head next_to))
+  pub last_named : 1 < left → IsSome (name_at p.names gone_to)
   last_named more = ap (λ (o : Option Name). is_some o) (last_member more).1
 
-  pub last_below : 1 < left → chained p.next head next_to < item_count z
-  last_below more = let r = last_member more in omega (arith, name_below p.names (chained p.next head next_to) r.0 r.1, k.names.items)
+  pub last_below : 1 < left → gone_to < item_count z
+  last_below more = let r = last_member more in omega (arith, name_below p.names gone_to r.0 r.1, k.names.items)
 
   head_first : (n : Name) × (name_at p.names head ≡ Some n) × (has i.front n ≡ true)
   head_first = let m = member_at k.units head i.front i.stands in (m.0, m.1.name, m.2)
@@ -188,7 +226,8 @@ module _ {z : Sizes} {old : Shown} {lane : ℕ} {at : Name} {head count left : �
   pub head_within : head < item_count z
   head_within = let m = head_first in omega (arith, name_below p.names head m.0 m.1, k.names.items)
 
-  module _ (more : 1 < left) (firsts' sizes' : List ℕ) (new : List Entry) (did : Loosens p.names p.next head next_to lane p.firsts firsts' p.sizes sizes' h new) where
+  module _ (more : 1 < left) (firsts' sizes' : List ℕ) (new : List Entry) (name : Name) (named : name_at p.names gone_to ≡ Some name) (noted : new ≡ h ++ record { pass = Lane lane; act = act.Loose name } ∷ []) (parted : firsts' ≡ set p.firsts gone_to gone_to)
+      (sized : sizes' ≡ set (set p.sizes gone_to 1) head next_to) where
     last : (n : Name) × (ends_with n i.front ≡ true)
     last = last_of i.front (left - 2) (let s = i.size in omega arith)
 
@@ -198,14 +237,14 @@ module _ {z : Sizes} {old : Shown} {lane : ℕ} {at : Name} {head count left : �
     long : length i.front ≡ suc next_to
     long = let s = i.size in omega arith
 
-    name_is : did.name ≡ n
-    name_is = let e : ◌≡◌ {A = Option Name} (Some did.name) (Some n) = sym did.named ∙ named_last k.names k.units i.midway.apart head i.front i.stands n last.1 next_to long in cc
+    name_is : name ≡ n
+    name_is = let e : ◌≡◌ {A = Option Name} (Some name) (Some n) = sym named ∙ named_last k.names k.units i.midway.apart head i.front i.stands n last.1 next_to long in cc
 
     abbrev e : Entry
     e = record { pass = Lane lane; act = act.Loose n }
 
     grown_one : new ≡ h ++ e ∷ []
-    grown_one = did.entry ∙ ap (λ (m : Name). h ++ record { pass = Lane lane; act = act.Loose m } ∷ []) name_is
+    grown_one = noted ∙ ap (λ (m : Name). h ++ record { pass = Lane lane; act = act.Loose m } ∷ []) name_is
 
     left_is : state_of new ≡ next (state_of h) e
     left_is = ap state_of grown_one ∙ one_more h e
@@ -222,12 +261,8 @@ module _ {z : Sizes} {old : Shown} {lane : ℕ} {at : Name} {head count left : �
     abbrev q : Parts
     q = record p { firsts = firsts'; sizes = sizes' }
 
-    -- the vectors that were written
-    abbrev gone_to : ℕ
-    gone_to = chained p.next head next_to
-
     over : (P : List ℕ → List ℕ → Type 0) → P (set p.firsts gone_to gone_to) (set (set p.sizes gone_to 1) head next_to) → P firsts' sizes'
-    over P it = subst (λ (fs : List ℕ). P fs sizes') (sym did.first) (subst (λ (zs : List ℕ). P (set p.firsts gone_to gone_to) zs) (sym did.size) it)
+    over P it = subst (λ (fs : List ℕ). P fs sizes') (sym parted) (subst (λ (zs : List ℕ). P (set p.firsts gone_to gone_to) zs) (sym sized) it)
 
     shows_next : Shows z q (mended (next (state_of h) e))
     shows_next = record {
@@ -270,6 +305,8 @@ module _ {z : Sizes} {old : Shown} {lane : ℕ} {at : Name} {head count left : �
       none = subst (λ (t : State). (t.frames lane).broken ≡ [] → (t.frames lane).loosened ≡ []) (sym left_is) (known1 z (state_of h) lane (unit_of (after old.history) at) i.front i.midway n last.1);
       counted = i.counted;
       size = sym (front_size k.names k.units i.midway.apart head i.front i.stands n last.1 next_to long);
+      room = let r = i.room in omega arith;
+      listed = λ j b. i.listed j (omega arith);
       member = i.member;
       own = i.own;
       unmarked = i.unmarked;

@@ -1,6 +1,5 @@
 -- Taking a unit apart.
-use Rattle.std.specs.Prelude.{◌≡◌, ◌≢◌, ℕ, true, List, [], ◌∷◌, ◌++◌, map, length, Option, Some}
-use Rattle.std.proofs.Math.ListN.{set}
+use Rattle.std.specs.Prelude.{◌≡◌, ◌≢◌, ℕ, ◌<◌, ◌≤◌, true, List, [], ◌++◌, map, length, get_or}
 use Rattle.world_model.specs.Sizes.{Sizes}
 use Rattle.world_model.specs.NameLists.{has}
 use Rattle.world_model.specs.World.{unit_of}
@@ -10,18 +9,10 @@ use Rattle.world_model.specs.Calls.{by}
 use Rattle.world_model.proofs.Answering.{IsMidway}
 use Rattle.heap_plain.specs.Types.{Name, Marking, Lane, Entry}
 use Rattle.heap_plain.specs.Types.act
-use Rattle.heap_plain.specs.Parts.{Parts, Shown, name_at}
+use Rattle.heap_plain.specs.Parts.{Parts, Shown}
 use Rattle.heap_plain.specs.Listing.{chained}
 use Rattle.heap_plain.specs.Sections.{StandsAt}
 use Rattle.heap_plain.specs.Plain.{Shows}
-
--- the object to which so many links lead from the head of a unit is one by itself, and that many stay
-pub record Loosens (names : List (Option Name)) (links : List ℕ) (head left lane : ℕ) (firsts firsts' sizes sizes' : List ℕ) (old new : List Entry) : Type 0 where
-  pub name : Name
-  pub named : name_at names (chained links head left) ≡ Some name
-  pub first : firsts' ≡ set firsts (chained links head left) (chained links head left)
-  pub size : sizes' ≡ set (set sizes (chained links head left) 1) head left
-  pub entry : new ≡ old ++ record { pass = Lane lane; act = act.Loose name } ∷ []
 
 -- the state as if no unit were being taken apart
 abbrev pub mended : State → State
@@ -39,6 +30,8 @@ pub record IsParting (z : Sizes) (old : Shown) (lane : ℕ) (at : Name) (head co
   pub none : ((state_of history).frames lane).broken ≡ [] → ((state_of history).frames lane).loosened ≡ []
   pub counted : count ≡ length (unit_of (after old.history) at)
   pub size : left ≡ length front
+  pub room : left ≤ length p.work
+  pub listed : (k : ℕ) → k < left → get_or p.work k 0 ≡ chained p.next head k
   pub member : has (unit_of (after old.history) at) at ≡ true
   pub own : at.lane ≡ lane
   pub unmarked : p.phase ≢ Marking

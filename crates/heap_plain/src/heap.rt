@@ -6,7 +6,7 @@ use crate::creating::{answer, classify, decide, fill_popped, fill_rows, link, pl
 use crate::filled::{copy, fill, filled};
 use crate::frames::count_open;
 use crate::life::Life;
-use crate::listing::list_units;
+use crate::listing::{list_unit, list_units};
 use crate::marking::{is_done, keep_roots, may_end, may_start, named, starts, stop_of};
 use crate::parting::loosen;
 use crate::purging::{ask_at, begin_at, finish_at, release, turned};
@@ -37,9 +37,10 @@ const NO_KIND: Kind = Kind {
 /// cells, whether it lives, its root bit, its mark bit, the number of its polls, the number of members
 /// that its unit waits for, a place of the worklist, one of the stack of free indexes, one of the
 /// queue of destruction, and whether it is garbage.
-/// Opening and closing a frame, setting a root, and reading and writing a cell cost a few steps; making
-/// a unit as many as it has cells; a slice of marking as many as the objects that it scans have
-/// reference cells; a step of destruction as many as it has objects; the rest looks at all items.
+/// Opening and closing a frame, setting a root, reading and writing a cell, and marking an object as
+/// garbage and asking for that cost a few steps; making a unit as many as it has cells; taking one apart
+/// as many as it has members; a slice of marking as many as the objects that it scans have reference
+/// cells; a step of destruction as many as it has objects; the rest looks at all items.
 #[derive(Drop)]
 pub struct PlainHeap<S: Shape> {
     /// The name at each index, while its object is not released.
@@ -59,7 +60,8 @@ pub struct PlainHeap<S: Shape> {
     /// At the index of the first member of a unit whether the unit is marked.
     marked: Vec<bool>,
     /// The worklist of the running collection: the units that were marked since it began, by the
-    /// index of the first member. The first `scanned` are black, those up to `pushed` are grey.
+    /// index of the first member. The first `scanned` are black, those up to `pushed` are grey. While
+    /// no collection marks, a unit's members are listed here as it is taken apart.
     work: Vec<u32>,
     scanned: usize,
     pushed: usize,
@@ -304,19 +306,14 @@ impl<S: Shape> Engine<S> for PlainHeap<S> {
         }
         let head = self.firsts[at.index as usize];
         let count = self.sizes[head as usize];
+        list_unit(&self.next, head, count as usize, &mut self.work, 0);
         let mut left = count;
         while left > 1 {
             left -= 1;
-            loosen(
-                &self.names,
-                &self.next,
-                head,
-                left,
-                &mut self.firsts,
-                &mut self.sizes,
-                lane,
-                &mut self.diary,
-            );
+            let index = self.work[left as usize];
+            self.diary
+                .loose(Pass::Lane(lane), named(&self.names, index as usize));
+            loosen(&mut self.firsts, &mut self.sizes, head, left, index);
         }
         self.diary.dissolve(Pass::Lane(lane), at.name, count);
         Ok(count)

@@ -1,4 +1,5 @@
-//! Listing the members of removed units, as a sweep finds their first members.
+//! Listing the members of units: of one that is taken apart, and of the removed ones, as a sweep
+//! finds their first members.
 ghost use Rattle.std.specs.Prelude.{◌≡◌, ◌+◌, ◌<◌, ◌≤◌, length, get_or, ℕ};
 ghost use Rattle.heap_plain.specs.Filling.{Filled};
 ghost use Rattle.heap_plain.specs.Parts.{life_at, first_at};
@@ -8,7 +9,7 @@ use crate::life::Life;
 
 /// Writes the indexes of a unit's members, of which the first is at `head`, to the places from `at`
 /// on.
-fn list_unit(next: &[u32], head: u32, count: usize, order: &mut Vec<u32>, at: usize)
+pub(crate) fn list_unit(next: &[u32], head: u32, count: usize, order: &mut Vec<u32>, at: usize)
     requires chain { (k : ℕ) → k < count → chained next.now head k < length next.now }
     requires room { at + count ≤ length order.old.items }
     ensures { Filled order.old.items order.new.items at count (chained next.now head) }

@@ -1,8 +1,8 @@
-use Rattle.std.proofs.Common.{◌≡◌, refl, arith, get_or}
+use Rattle.std.proofs.Common.{◌≡◌, ◌-◌, ◌∙◌, refl, arith, get_or}
 use Rattle.std.proofs.lemmas.List.{get_or_read}
 use Rattle.heap_plain.specs.Parts.{first_at}
 use Rattle.heap_plain.proofs.WorldFacts.{appends_one}
-use Rattle.heap_plain.proofs.Dissolving.{starts, head_below, place_below, refused, refused_held, chain_below, last_named, last_below, head_within, goes_on, ends_plain, ends_appends, ends_held}
+use Rattle.heap_plain.proofs.Dissolving.{starts, head_below, place_below, refused, refused_held, members_below, room, last_named, last_listed, goes_on, ends_plain, ends_appends, ends_held}
 use Rattle.heap_plain.proofs.heap.PlainHeapEngine.dissolve.Goals as goal
 
 pub invariant_of-self : goal.invariant_of-self
@@ -29,6 +29,21 @@ index-count-requires g c =
     let head : c.index-head.result.now ≡ first_at c.self.inside.firsts.items c.args.at.index = get_or_read c.self.inside.firsts.items _ _ (omega (arith, below, s.units.firsts_len)) c.index-head.ensures 0 in
     omega (arith, head, head_below _ _ _ _ _ c.self.invariant frame.in_range frame.opened held c.requires.own, s.units.sizes_len, c.self.inside.sizes.ok.0)
 
+pub list_unit-requires : goal.list_unit-requires
+list_unit-requires g c =
+    let frame = rw (← c.self.view_is) at c.requires.frame in
+    let held = rw (← c.self.view_is) at c.requires.at in
+    let s = c.self.invariant.shows in
+    let below = place_below _ _ _ _ _ c.self.invariant frame.in_range frame.opened held c.requires.own in
+    let under = head_below _ _ _ _ _ c.self.invariant frame.in_range frame.opened held c.requires.own in
+    let head : c.index-head.result.now ≡ first_at c.self.inside.firsts.items c.args.at.index = get_or_read c.self.inside.firsts.items _ _ (omega (arith, below, s.units.firsts_len)) c.index-head.ensures 0 in
+    let count : c.index-count.result.now ≡ get_or c.self.inside.sizes.items (first_at c.self.inside.firsts.items c.args.at.index) 0 =
+    get_or_read c.self.inside.sizes.items _ _ (omega (arith, under, s.units.sizes_len)) (rw head at c.index-count.ensures) 0 in
+    rw (c.deref.ensures.value, head, count) (record {
+      chain = λ k b. omega (arith, members_below _ _ _ _ _ c.self.invariant frame.in_range frame.opened held c.requires.own k b, s.units.links_len);
+      room = omega (arith, room _ _ _ _ _ c.self.invariant frame.in_range frame.opened held c.requires.own, s.work.work_len);
+    })
+
 pub loop-left-init : goal.loop-left-init
 loop-left-init g c =
     let frame = rw (← c.self.view_is) at c.requires.frame in
@@ -39,25 +54,25 @@ loop-left-init g c =
     let head : c.index-head.result.now ≡ first_at c.self.inside.firsts.items c.args.at.index = get_or_read c.self.inside.firsts.items _ _ (omega (arith, below, s.units.firsts_len)) c.index-head.ensures 0 in
     let count : c.index-count.result.now ≡ get_or c.self.inside.sizes.items (first_at c.self.inside.firsts.items c.args.at.index) 0 =
     get_or_read c.self.inside.sizes.items _ _ (omega (arith, under, s.units.sizes_len)) (rw head at c.index-count.ensures) 0 in
-    rw (← c.self.view_is, head, count) (starts _ _ _ _ _ c.self.invariant frame.in_range frame.opened held c.requires.own c.in_default.not-Marking)
+    rw (← c.self.view_is, head, count) (starts _ _ _ _ _ c.self.invariant frame.in_range frame.opened held c.requires.own c.in_default.not-Marking _ (rw (c.deref.ensures.value, head, count) at c.list_unit.ensures))
 
-pub loosen-requires : goal.loosen-requires
-loosen-requires g c =
+pub index-index-requires : goal.index-index-requires
+index-index-requires g c = let r = c.loop-left.invariant.room in omega (arith, c.loop-left-test.true, c.loop-left.self-inside.work.ok.0)
+
+pub named-requires : goal.named-requires
+named-requires g c =
     let i = c.loop-left.invariant in
     let more = c.loop-left-test.true in
-    rw (c.deref.ensures.value, c.deref-in-loop-left.ensures.value) (record {
-      chain = chain_below i more;
-      named = last_named i more;
-      firsts = omega (arith, last_below i more, i.shows.units.firsts_len);
-      sizes = omega (arith, last_below i more, i.shows.units.sizes_len);
-      head = omega (arith, head_within i, i.shows.units.sizes_len);
-    })
+    let index : c.index-index.result.now ≡ get_or c.loop-left.self-inside.work.items (c.loop-left.left - 1) 0 = get_or_read c.loop-left.self-inside.work.items _ _ (let r = i.room in omega arith) c.index-index.ensures 0 in
+    rw (c.deref-in-loop-left.ensures.value, index, last_listed i more) (last_named i more)
 
 pub loop-left-preserved : goal.loop-left-preserved
 loop-left-preserved g c =
     let i = c.loop-left.invariant in
     let more = c.loop-left-test.true in
-    goes_on i more _ _ _ (rw (c.deref.ensures.value, c.deref-in-loop-left.ensures.value) at c.loosen.ensures)
+    let index : c.index-index.result.now ≡ get_or c.loop-left.self-inside.work.items (c.loop-left.left - 1) 0 = get_or_read c.loop-left.self-inside.work.items _ _ (let r = i.room in omega arith) c.index-index.ensures 0 in
+    let to = index ∙ last_listed i more in
+    goes_on i more _ _ _ _ (rw (c.deref-in-loop-left.ensures.value, to) at c.named.ensures) c.loose.ensures (rw to at c.loosen.ensures.firsts) (rw to at c.loosen.ensures.sizes)
 
 pub invariant_of-self-2 : goal.invariant_of-self-2
 invariant_of-self-2 g c = rw c.dissolve.ensures (ends_plain c.loop-left.invariant (omega (arith, c.loop-left-test.false)))
