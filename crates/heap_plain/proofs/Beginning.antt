@@ -106,7 +106,7 @@ begins z lawful = record {
   legal = tt;
   shows = record {
     phase = refl;
-    frames = record { lanes = all_same z.lanes false; count = sum_by-replicate _ z.lanes false ∙ omega arith; once = tt };
+    frames = record { lanes = all_same z.lanes false; count = sum_by-replicate _ z.lanes false ∙ omega arith; once = tt; alone = refl };
     names = record {
       counts = all_same z.lanes 0;
       items = length-replicate _ _;

@@ -2,13 +2,15 @@
 use Rattle.std.proofs.Common.{◌≡◌, ◌≢◌, ℕ, ◌<◌, ◌==◌, Bool, cond, true, false, not, List, [], ◌∷◌, ◌++◌, get_or, refl, sym, ap, ◌∙◌, subst, arith, Option, None, filter}
 use Rattle.std.specs.List.{list_any}
 use Rattle.std.proofs.Math.ListN.{set}
-use Rattle.std.proofs.lemmas.Bool.{ne_eqb, eqb-false, or_parts}
+use Rattle.std.proofs.lemmas.Bool.{both_ways, false_from_ne_true, ne_eqb, eqb-false, or_parts}
 use Rattle.std.proofs.lemmas.List.Sums.{sum_by-set}
 use Rattle.world_model.specs.Sizes.{Sizes}
 use Rattle.world_model.specs.NameLists.{same_pass, has, set_at}
 use Rattle.world_model.specs.World.{is_open}
 use Rattle.world_model.specs.State.{Frame, no_frame}
 use Rattle.world_model.specs.Histories.{after, state_of}
+use Rattle.world_model.specs.Engines.{is_marker}
+use Rattle.world_model.proofs.ListFacts.{any_filter}
 use Rattle.heap_plain.specs.Types.{Name, Ref, Pass, Lane, Entry}
 use Rattle.heap_plain.specs.Types.act
 use Rattle.heap_plain.specs.declared.life.Life.{Life}
@@ -28,6 +30,7 @@ frames_open z frames opened l s lane closed = record {
       let bit : cond {A = ℕ} (get_or frames l false) 1 0 ≡ 0 = ap (λ (b : Bool). cond {A = ℕ} b 1 0) (s.lanes.each l false lane ∙ closed) in
       omega (arith, s.count);
   once = (closed, s.once);
+  alone = s.alone;
 }
 
 held_open : (names : List (Option Name)) (lives : List Life) (opened : List Pass) (frames : ℕ → Frame) (l : ℕ) → HeldShow names lives opened frames → HeldShow names lives (Lane l ∷ opened) (set_at frames l no_frame)
@@ -89,6 +92,7 @@ frames_close z frames opened l s lane is = record {
       let bit : cond {A = ℕ} (get_or frames l false) 1 0 ≡ 1 = ap (λ (b : Bool). cond {A = ℕ} b 1 0) (s.lanes.each l false lane ∙ is) in
       omega (arith, s.count, one_out (Lane l) opened s.once is);
   once = once_filter _ opened s.once;
+  alone = false_from_ne_true _ (λ some. both_ways _ s.alone (any_filter is_marker (λ q. not (same_pass (Lane l) q)) opened some));
 }
 
 held_close : (names : List (Option Name)) (lives : List Life) (opened : List Pass) (frames : ℕ → Frame) (l : ℕ) → HeldShow names lives opened frames

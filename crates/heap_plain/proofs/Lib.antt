@@ -21,6 +21,7 @@ pub mod Shadings
 pub mod Quiet
 pub mod BeginSteps
 pub mod SliceSteps
+pub mod Needed
 pub mod UnitSteps
 pub mod MarkSlices
 pub mod GarbageSteps

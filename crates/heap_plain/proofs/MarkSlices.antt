@@ -14,7 +14,6 @@ use Rattle.world_model.specs.Next.{next, run}
 use Rattle.world_model.specs.MarkerSteps.{member_count, WasWithin, MayStop}
 use Rattle.world_model.specs.Histories.{MayBy, LegalFrom, Legal, after, state_of}
 use Rattle.world_model.specs.Calls.{by, is_mark_note, Appends}
-use Rattle.world_model.specs.Engines.{no_slice}
 use Rattle.world_model.proofs.ListFacts.{Among, and_true, or_right}
 use Rattle.world_model.proofs.NameFacts.{set_at_same, same_name_refl}
 use Rattle.world_model.proofs.Units.{AreApart, units_apart}
@@ -39,12 +38,13 @@ use Rattle.heap_plain.proofs.Standing.{member_at, name_below, bit_below, live_us
 use Rattle.heap_plain.proofs.Listings.{chained_next}
 use Rattle.heap_plain.proofs.Cells.{aims_target, aims_name, cell_ref, cell_below}
 use Rattle.heap_plain.proofs.MarkSteps.{distinct_drop}
-use Rattle.heap_plain.proofs.SliceSteps.{linked_place, count_cons, filter_none, no_marker, not_true, marking_or_not, grey_empty}
+use Rattle.heap_plain.proofs.SliceSteps.{linked_place, count_cons, filter_none, no_marker, marking_or_not, grey_empty}
+use Rattle.heap_plain.proofs.Needed.{keeps_append, keeps_opened}
 use Rattle.heap_plain.proofs.UnitSteps.{AtUnit, UnitRun, unit_run}
 
 -- ---- the slice opens
 
-module _ (z : Sizes) (p : Parts) (h : List Entry) (marker budget : ℕ) (was : IsPlain z p h) (range : marker < z.markers) (alone : no_slice (after h) ≡ true) where
+module _ (z : Sizes) (p : Parts) (h : List Entry) (marker budget : ℕ) (was : IsPlain z p h) (range : marker < z.markers) where
   abbrev open_entry : Entry
   open_entry = record { pass = Marker marker; act = act.SliceOpen }
 
@@ -52,7 +52,7 @@ module _ (z : Sizes) (p : Parts) (h : List Entry) (marker budget : ℕ) (was : I
   s1 = next (state_of h) open_entry
 
   not_open : list_any (same_pass (Marker marker)) (after h).opened ≡ false
-  not_open = no_marker (after h).opened marker (not_true _ alone)
+  not_open = no_marker (after h).opened marker was.shows.frames.alone
 
   empty : (s1.slices marker).scanned ≡ []
   empty = ap (λ (x : Slicing). x.scanned) (set_at_same (state_of h).slices marker _)
@@ -74,6 +74,7 @@ module _ (z : Sizes) (p : Parts) (h : List Entry) (marker budget : ℕ) (was : I
     notes = [];
     grown = refl;
     only = refl;
+    needed = tt;
     legal = legal_join z beginning h (open_entry ∷ []) was.legal (record { in_range = range; slice = not_open; may = tt }, tt);
     sliced = subst (λ (s : State). Sliced z (state_of h) marker budget 0 p s) (sym (state_more h (open_entry ∷ []))) sliced_start;
     held = λ lane r held. holds_more h (open_entry ∷ []) p.names lane r (λ e. e) held;
@@ -374,6 +375,7 @@ module _ {z : Sizes} {old : Shown} {marker budget total : ℕ} {p : Parts} {hist
       grown = ap (λ (xs : List Entry). xs ++ es) i.grown ∙ append_assoc old.history (by (Marker marker) (act.SliceOpen ∷ i.notes)) es
           ∙ ap (λ (xs : List Entry). old.history ++ xs) (sym (by-append (Marker marker) (act.SliceOpen ∷ i.notes) acts));
       only = both_notes i.notes acts i.only (all_notes (names_at p.names heads));
+      needed = keeps_append w i.notes acts i.needed (keeps_opened w w1.opened acts ran.needed);
       legal = legal_join z beginning history es i.legal (subst (λ (x : State). LegalFrom z x es) same_state ran.legal);
       sliced = subst (λ (x : State). Sliced z (state_of old.history) marker budget (total + size) q x) (end_is ∙ sym (state_more history es)) sliced_end;
       held = λ lane r h. holds_more history es p.names lane r
@@ -450,7 +452,7 @@ module _ {z : Sizes} {old : Shown} {marker budget total : ℕ} {p : Parts} {hist
   pub sliced_appends : Appends z old.history (history ++ slice_entry ∷ []) (Marker marker) (act.Slice budget reply)
   sliced_appends = record {
     acts = (act.SliceOpen ∷ i.notes) ++ act.Slice budget reply ∷ [];
-    call = record { notes = i.notes; are = refl; only = i.only; idle = (idle_then, λ both. then_idle why stops both.0) };
+    call = record { notes = i.notes; are = refl; only = i.only; needed = i.needed; idle = (idle_then, λ both. then_idle why stops both.0) };
     grown = ap (λ (xs : List Entry). xs ++ slice_entry ∷ []) i.grown ∙ append_assoc old.history (by (Marker marker) (act.SliceOpen ∷ i.notes)) (slice_entry ∷ [])
         ∙ sym (ap (λ (xs : List Entry). old.history ++ xs) (by-append (Marker marker) (act.SliceOpen ∷ i.notes) (act.Slice budget reply ∷ [])));
     legal = sliced_invariant.legal;

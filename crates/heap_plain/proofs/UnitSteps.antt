@@ -10,7 +10,7 @@ use Rattle.world_model.specs.State.{State, Slicing, AtSomeMoment, is_grey, is_ma
 use Rattle.world_model.specs.Reach.{graph, IsUnit, Refers}
 use Rattle.world_model.specs.Next.{next, run}
 use Rattle.world_model.specs.Histories.{LegalFrom, MayBy}
-use Rattle.world_model.specs.Calls.{by}
+use Rattle.world_model.specs.Calls.{by, KeepsForScans}
 use Rattle.world_model.proofs.ListFacts.{contains_among, among_contains}
 use Rattle.world_model.proofs.NameFacts.{set_at_same}
 use Rattle.world_model.proofs.Units.{AreApart}
@@ -24,6 +24,7 @@ use Rattle.heap_plain.specs.Sections.{Distinct, NamesShow, UnitsShow, StandsAt, 
 use Rattle.heap_plain.proofs.WorldFacts.{in_world_of, unit_of_is}
 use Rattle.heap_plain.proofs.Standing.{member_at, one_unit, head_of}
 use Rattle.heap_plain.proofs.MarkSteps.{mark_one}
+use Rattle.heap_plain.proofs.Needed.{scanned_at_end}
 use Rattle.heap_plain.proofs.SliceSteps.{scan_one}
 
 -- the slice of a marker is at a unit, whose cells hold the objects at some indexes
@@ -42,6 +43,7 @@ pub record AtUnit (z : Sizes) (names : List (Option Name)) (made firsts sizes li
 -- what these notes do from a state on
 pub record UnitRun (z : Sizes) (names : List (Option Name)) (firsts sizes links : List ℕ) (lives : List Life) (marked : List Bool) (listed grey : List ℕ) (marker : ℕ) (u : List Name) (s : State) (acts : List Act) : Type 0 where
   pub legal : LegalFrom z s (by (Marker marker) acts)
+  pub needed : KeepsForScans s.world acts
   pub world : (run s (by (Marker marker) acts)).world ≡ s.world
   pub frames : (run s (by (Marker marker) acts)).frames ≡ s.frames
   pub agreed : (run s (by (Marker marker) acts)).collector.agreed ≡ s.collector.agreed
@@ -75,6 +77,7 @@ unit_run z names made firsts sizes links lives s earlier marker u head n At mark
     } in
     record {
       legal = (may, tt);
+      needed = tt;
       world = refl;
       frames = refl;
       agreed = refl;
@@ -105,6 +108,7 @@ unit_run z names made firsts sizes links lives s earlier marker u head n At mark
     let unit_is : unit_of s.world m ≡ v = unit_of_is s.world.kinds s.world.units v m at.apart stands.among member.2 in
     let target : has v lead.0 ≡ true = stands.whole r.0 lead.0 lead.1 r.2 in
     let refers : Refers (graph s.world) u (unit_of s.world m) = subst (λ (y : List Name). Refers (graph s.world) u y) (sym unit_is) (record { from = lead.2; slot = lead.3; to = lead.0; cell = lead.4; member = lead.5; target = target }) in
+    let own_unit : unit_of s.world n ≡ u = unit_of_is s.world.kinds s.world.units u n at.apart at.stands.among at.member in
     let own = marks.grey_units head (inl refl) in
     let same : own.0 ≡ u = one_unit at.apart at.units_show head own.0 u own.1 at.stands in
     let grey : is_grey s.marks u ≡ true = subst (λ (y : List Name). is_grey s.marks y ≡ true) same own.2 in
@@ -124,6 +128,7 @@ unit_run z names made firsts sizes links lives s earlier marker u head n At mark
     } in
     let whole : UnitRun z names firsts sizes links lives (all_set marked (x ∷ heads)) ((listed ++ x ∷ []) ++ heads) ((rest ++ x ∷ []) ++ heads) marker u s (act.Kept m ∷ (map act.Kept (names_at names heads) ++ act.Scanned n ∷ [])) = record {
       legal = (may, tail.legal);
+      needed = (scanned_at_end s.world m n (names_at names heads) (subst (λ (y : List Name). Refers (graph s.world) y (unit_of s.world m)) (sym own_unit) refers), tail.needed);
       world = tail.world;
       frames = tail.frames;
       agreed = tail.agreed;

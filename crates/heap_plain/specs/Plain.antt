@@ -8,7 +8,7 @@ use Rattle.world_model.specs.NameLists.{same_pass, members}
 use Rattle.world_model.specs.World.{World}
 use Rattle.world_model.specs.State.{State}
 use Rattle.world_model.specs.Histories.{Legal, after, state_of}
-use Rattle.world_model.specs.Calls.{by, is_mark_note, is_purge_part, is_purge_step}
+use Rattle.world_model.specs.Calls.{by, KeepsForScans, is_mark_note, is_purge_part, is_purge_step}
 use Rattle.world_model.specs.MarkerSteps.{member_count, WasWithin}
 use Rattle.world_model.specs.Hooks.{ReadyTest, SameTest, AreCalledFor, Meets}
 use Rattle.heap_plain.specs.Parts.{Parts, Shown, Holds}
@@ -90,6 +90,7 @@ pub record IsSlicing (z : Sizes) (old : Shown) (marker budget total : ℕ) (p : 
   pub notes : List Act
   pub grown : history ≡ old.history ++ by (Marker marker) (act.SliceOpen ∷ notes)
   pub only : list_all is_mark_note notes ≡ true
+  pub needed : KeepsForScans (after old.history) notes
   pub legal : Legal z history
   pub sliced : Sliced z (state_of old.history) marker budget total p (state_of history)
   pub held : (lane : ℕ) (r : Ref) → Holds old lane r → Holds (record { history = history; names = p.names }) lane r

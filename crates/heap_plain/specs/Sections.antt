@@ -6,6 +6,7 @@ use Rattle.world_model.specs.Sizes.{Sizes, item_count}
 use Rattle.world_model.specs.NameLists.{same_name, same_pass, has, members}
 use Rattle.world_model.specs.World.{World, empty_world, Removal, Removed as AtRemoved, Finished as AtFinished, has_stage, destruction_order}
 use Rattle.world_model.specs.State.{Frame}
+use Rattle.world_model.specs.Engines.{is_marker}
 use Rattle.world_model.proofs.ListFacts.{Among}
 use Rattle.world_model.proofs.Queues.{IsQueue}
 use Rattle.heap_plain.specs.declared.life.Life.{Life}
@@ -31,6 +32,7 @@ pub record FramesShow (z : Sizes) (frames : List Bool) (opened : List Pass) : Ty
   pub lanes : Lists frames z.lanes (λ lane. list_any (same_pass (Lane lane)) opened)
   pub count : count_by (λ is_open. is_open) frames ≡ length opened
   pub once : AreOnce opened
+  pub alone : list_any is_marker opened ≡ false
 
 -- ---- names
 

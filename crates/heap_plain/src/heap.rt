@@ -196,6 +196,10 @@ impl<S: Shape> Engine<S> for PlainHeap<S> {
 
     ghost one_index = { one };
 
+    fn lawful(&self) {
+        let _ = self.frames.len();
+    }
+
     fn open_frame(&mut self, lane: u32) -> Phase {
         self.frames[lane as usize] = true;
         self.diary.frame_open(Pass::Lane(lane), self.phase);

@@ -6,7 +6,7 @@ use Rattle.heap_plain.proofs.heap.PlainHeapEngine.mark.Goals.{then-loop-self-tes
 use Rattle.heap_plain.proofs.heap.PlainHeapEngine.mark.Goals as goal
 
 pub loop-self-init : goal.loop-self-init
-loop-self-init g c = rw (← c.self.view_is, c.slice_open.ensures) (record { small = omega arith; slicing = mark_starts _ _ _ _ _ c.self.invariant c.requires.marker (rw (← c.self.view_is) at c.requires.alone) })
+loop-self-init g c = rw (← c.self.view_is, c.slice_open.ensures) (record { small = omega arith; slicing = mark_starts _ _ _ _ _ c.self.invariant c.requires.marker })
 
 pub shade_unit-self-inside-requires-clause-chain : goal.shade_unit-self-inside-requires-clause-chain
 shade_unit-self-inside-requires-clause-chain g c =
