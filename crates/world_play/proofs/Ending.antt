@@ -1,5 +1,5 @@
 -- What an input that was read says of the whole of it.
-use Rattle.std.proofs.Common.{◌≡◌, ℕ, Bool, true, false, ◌&&◌, List, [], ◌∷◌, ◌++◌, length, take, drop, ◌⊎◌, inl, inr, refl, sym, ap, subst, ◌∙◌, Option, Some, None, Result, Ok, Err, arith}
+use Rattle.std.proofs.Common.{◌≡◌, ◌↔◌, ℕ, Bool, true, false, ◌&&◌, List, [], ◌∷◌, ◌++◌, length, take, drop, ◌⊎◌, inl, inr, refl, sym, ap, subst, ◌∙◌, Option, Some, None, Result, Ok, Err, arith}
 use Rattle.std.proofs.lemmas.Bool.Decides.{nat_tests}
 use Rattle.std.proofs.lemmas.List.{length-take, take_all, drop_all}
 use Rattle.std.specs.Prelude.{nat_lt, slice_index, slice_index_or, IfSome, option_map}
@@ -34,7 +34,7 @@ use Rattle.level_script.specs.Frames.{are_framed, IsPlayable}
 use Rattle.world_model.proofs.ListFacts.{and_true}
 use Rattle.world_play.specs.Laws.{HasClass, OneText}
 use Rattle.world_play.specs.Turns.{Stops, Played, Stopped}
-use Rattle.world_play.specs.Ends.{header_of, limits_in, history_of, IsScript, HasFault, WasTaken, Refuses, WritesFault, HasRun, WasPlayed, OnDone, OnStopped, IsInput, NamesFault, Headline, EndsEarly, WritesOutcome, CountsLines, TellsScript}
+use Rattle.world_play.specs.Ends.{header_of, limits_in, history_of, IsScript, HasFault, WasTaken, Refuses, WritesFault, HasRun, WasPlayed, OnDone, OnStopped, IsUnbroken, IsInput, NamesFault, EndsWell, EndsEarly, WritesOutcome, CountsLines, TellsScript}
 use Rattle.world_play.specs.declared.status.Status.{Status}
 use Rattle.world_play.specs.declared.status.Status.TheVariants as status
 use Rattle.world_play.specs.declared.run.Run.{Run}
@@ -78,16 +78,16 @@ nothing_left xs script limits e = go (nat_lt 16777216 (length xs)) refl
     go false t = drop_all 16777217 xs (grind (arith, nat_tests, t))
 
 pub read_script_of : (limits : Limits) (left now : Option (List ℕ)) (v : List ℕ) (script : Script) → Read left now 16777216 v → script_of v limits ≡ Some script → IsScript limits left script
-read_script_of limits None now v script r e = tt
-read_script_of limits (Some xs) now v script (is, rest) e = go (read_of xs v limits is)
+read_script_of limits None now v script r e = record { input = v; told = tt; is = e }
+read_script_of limits (Some xs) now v script (is, rest) e = record { input = xs; told = refl; is = go (read_of xs v limits is) }
   where
     go : (v ≡ xs) ⊎ ((nat_lt 16777216 (length v) ≡ true) × (nat_lt 16777216 (length xs) ≡ true)) → script_of xs limits ≡ Some script
     go (inl same) = ap (λ (b : List ℕ). script_of b limits) (sym same) ∙ e
     go (inr (long, longer)) = absurd (let none = long_script v limits long in cc)
 
 pub read_fault_of : (limits : Limits) (left now : Option (List ℕ)) (v : List ℕ) (fault : ScriptErr) → Read left now 16777216 v → fault_of v limits ≡ Some fault → HasFault limits left fault
-read_fault_of limits None now v fault r e = tt
-read_fault_of limits (Some xs) now v fault (is, rest) e = go (read_of xs v limits is)
+read_fault_of limits None now v fault r e = record { input = v; told = tt; is = e }
+read_fault_of limits (Some xs) now v fault (is, rest) e = record { input = xs; told = refl; is = go (read_of xs v limits is) }
   where
     go : (v ≡ xs) ⊎ ((nat_lt 16777216 (length v) ≡ true) × (nat_lt 16777216 (length xs) ≡ true)) → fault_of xs limits ≡ Some fault
     go (inl same) = ap (λ (b : List ℕ). fault_of b limits) (sym same) ∙ e
@@ -176,10 +176,14 @@ counts_unplayed held count none = counts_none held held count refl none
 abbrev pub PlayedAs : Words → Status → Script → Option Run → Option (List ℕ) → Option (List ℕ) → ℕ → Type 0
 PlayedAs w how script r had has count = WasPlayed (sizes_of w.shape) w.slice how script (option_map history_of r) had has count
 
-pub headline_of : (w : Words) (how : Status) (left now : Option (List ℕ)) (script : Script) (r : Option Run) (had has : Option (List ℕ)) (count : ℕ) → IsScript (limits_in w.shape) left script → WasTaken left now → PlayedAs w how script r had has count → OnDone how (Headline w left now had has r)
-headline_of w status.Ok None now script r had has count is taken h = tt
-headline_of w status.Ok (Some input) now script None had has count is taken h = tt
-headline_of w status.Ok (Some input) now script (Some engine) had has count is taken h = (script, is, taken ∙ ap (λ (xs : List ℕ). Some xs) (nothing_left input script (limits_in w.shape) is), h.0)
+-- of an input that is a script nothing is left
+all_taken : (limits : Limits) (left now : Option (List ℕ)) (script : Script) → IsScript limits left script → WasTaken left now → IfSome left (λ input. now ≡ Some [])
+all_taken limits None now script is taken = tt
+all_taken limits (Some input) now script is taken = taken ∙ ap (λ (xs : List ℕ). Some xs) (nothing_left input script limits (ap (λ (xs : List ℕ). script_of xs limits) is.told ∙ is.is))
+
+pub headline_of : (w : Words) (how : Status) (left now : Option (List ℕ)) (script : Script) (r : Option Run) (had has : Option (List ℕ)) (count : ℕ) → IsScript (limits_in w.shape) left script → WasTaken left now → PlayedAs w how script r had has count → OnDone how (IfSome r (EndsWell w left now had has))
+headline_of w status.Ok left now script None had has count is taken h = tt
+headline_of w status.Ok left now script (Some engine) had has count is taken h = record { script = script; read = is; all = all_taken (limits_in w.shape) left now script is taken; played = h.0 }
 headline_of w status.Usage left now script r had has count is taken h = tt
 headline_of w (status.Script fault) left now script r had has count is taken h = tt
 headline_of w status.ReadFault left now script r had has count is taken h = tt
@@ -219,9 +223,8 @@ outcome_played law z budget limits script history had has can h =
     h.put
 
 pub outcome_of_run : OneText → (w : Words) (how : Status) (left : Option (List ℕ)) (script : Script) (r : Option Run) (had has : Option (List ℕ)) (count : ℕ) → IsPlayable (limits_in w.shape) script → IsScript (limits_in w.shape) left script → HasRun how r → PlayedAs w how script r had has count → OnDone how (WritesOutcome w.shape left had has)
-outcome_of_run law w status.Ok None script r had has count can is there h = tt
-outcome_of_run law w status.Ok (Some input) script None had has count can is there h = absurd (there refl)
-outcome_of_run law w status.Ok (Some input) script (Some engine) had has count can is there h = (script, is, outcome_played law (sizes_of w.shape) w.slice (limits_in w.shape) script _ had has can h.0)
+outcome_of_run law w status.Ok left script None had has count can is there h = absurd (there refl)
+outcome_of_run law w status.Ok left script (Some engine) had has count can is there h = record { script = script; read = is; gained = outcome_played law (sizes_of w.shape) w.slice (limits_in w.shape) script _ had has can h.0 }
 outcome_of_run law w status.Usage left script r had has count can is there h = tt
 outcome_of_run law w (status.Script fault) left script r had has count can is there h = tt
 outcome_of_run law w status.ReadFault left script r had has count can is there h = tt
@@ -229,8 +232,7 @@ outcome_of_run law w status.WriteFault left script r had has count can is there 
 outcome_of_run law w status.Memory left script r had has count can is there h = tt
 
 ends_early : (w : Words) (left : Option (List ℕ)) (script : Script) (engine : Run) (had has : Option (List ℕ)) (count : ℕ) → IsScript (limits_in w.shape) left script → Stopped (sizes_of w.shape) w.slice (header_of script) script.lines (history_of engine) had has count → EndsEarly w left had has count engine
-ends_early w None script engine had has count is h = tt
-ends_early w (Some input) script engine had has count is h = (script, is, h)
+ends_early w left script engine had has count is h = record { script = script; read = is; stopped = h }
 
 pub early_of : (w : Words) (how : Status) (left : Option (List ℕ)) (script : Script) (r : Option Run) (had has : Option (List ℕ)) (count : ℕ) → IsScript (limits_in w.shape) left script → PlayedAs w how script r had has count → OnStopped how r (EndsEarly w left had has count)
 early_of w status.Ok left script r had has count is h = tt
@@ -256,7 +258,7 @@ pub completes_unread : (name : ShapeName) (limits : Limits) (how : Status) (left
 completes_unread name limits status.Ok left rest before now are h told quiet = inl refl
 completes_unread name limits status.Usage left rest before now are h told quiet = absurd h
 completes_unread name limits (status.Script fault) None rest before now are h told quiet = absurd told
-completes_unread name limits (status.Script fault) (Some input) rest before now are h told quiet = absurd (not_both input limits told.0 fault (rw are told.1) h.0)
+completes_unread name limits (status.Script fault) (Some input) rest before now are h told quiet = absurd (not_both input limits told.0 fault (rw are told.1) (ap (λ (xs : List ℕ). fault_of xs limits) h.0.told ∙ h.0.is))
 completes_unread name limits status.ReadFault left rest before now are h told quiet = absurd (quiet h)
 completes_unread name limits status.WriteFault left rest before now are h told quiet = absurd h
 completes_unread name limits status.Memory left rest before now are h told quiet = inr refl
@@ -275,20 +277,34 @@ input_fault input bytes limits (inr same) = ap (λ (xs : List ℕ). fault_of xs 
 
 -- a script has no fault to be named
 pub names_of_script : (name : ShapeName) (how : Status) (left : Option (List ℕ)) (script : Script) (before now : ℕ) → IsScript (limits_in name) left script → WritesFault before now how → NamesFault name left how
-names_of_script name how None script before now is h = tt
-names_of_script name how (Some input) script before now is h = λ bytes fault same. (
-  (λ said. absurd (subst (WritesFault before now) said h)),
-  (λ has. absurd (not_both input (limits_in name) script fault is (sym (input_fault input bytes (limits_in name) same) ∙ has.1))),
-)
+names_of_script name how left script before now is h = record { has = λ fault said. absurd (subst (WritesFault before now) said h); exactly = exactly left is }
+  where
+    exactly : (left : Option (List ℕ)) → IsScript (limits_in name) left script → IfSome left (λ input. (bytes : List ℕ) (fault : ScriptErr) → IsInput input bytes → (how ≡ status.Script fault) ↔ (IsUnbroken how × (fault_of bytes (limits_in name) ≡ Some fault)))
+    exactly None is = tt
+    exactly (Some input) is = λ bytes fault same. (
+      (λ said. absurd (subst (WritesFault before now) said h)),
+      (λ has. absurd (not_both input (limits_in name) script fault (ap (λ (xs : List ℕ). script_of xs (limits_in name)) is.told ∙ is.is) (sym (input_fault input bytes (limits_in name) same) ∙ has.1))),
+    )
 
 -- what was not read has the fault that is named
 pub names_unread : (name : ShapeName) (limits : Limits) (how : Status) (left rest : Option (List ℕ)) (before now : ℕ) → limits ≡ limits_in name → Refuses limits left rest before now how → NamesFault name left how
-names_unread name limits how None rest before now are h = tt
-names_unread name limits status.Ok (Some input) rest before now are h = absurd h
-names_unread name limits status.Usage (Some input) rest before now are h = absurd h
-names_unread name limits (status.Script told) (Some input) rest before now are h = λ bytes fault same.
-    let is : fault_of bytes (limits_in name) ≡ Some told = input_fault input bytes (limits_in name) same ∙ ap (λ (l : Limits). fault_of input l) (sym are) ∙ h.0 in
-    ((λ said. let e : told ≡ fault = cc in (((λ x. cc), (λ x. cc)), is ∙ ap (λ (f : ScriptErr). Some f) e)), (λ has. let e : told ≡ fault = cc in ap (λ (f : ScriptErr). status.Script f) e))
-names_unread name limits status.ReadFault (Some input) rest before now are h = λ bytes fault same. ((λ said. absurd cc), (λ has. absurd (has.0.0 refl)))
-names_unread name limits status.WriteFault (Some input) rest before now are h = absurd h
-names_unread name limits status.Memory (Some input) rest before now are h = λ bytes fault same. ((λ said. absurd cc), (λ has. absurd (has.0.1 refl)))
+names_unread name limits how left rest before now are h = record { has = has how h; exactly = exactly how left h }
+  where
+    has : (how : Status) → Refuses limits left rest before now how → (fault : ScriptErr) → how ≡ status.Script fault → HasFault (limits_in name) left fault
+    has (status.Script told) h fault said = let e : told ≡ fault = cc in subst (λ (f : ScriptErr). HasFault (limits_in name) left f) e (subst (λ (l : Limits). HasFault l left told) are h.0)
+    has status.Ok h fault said = absurd h
+    has status.Usage h fault said = absurd h
+    has status.ReadFault h fault said = absurd cc
+    has status.WriteFault h fault said = absurd h
+    has status.Memory h fault said = absurd cc
+
+    exactly : (how : Status) (left : Option (List ℕ)) → Refuses limits left rest before now how → IfSome left (λ input. (bytes : List ℕ) (fault : ScriptErr) → IsInput input bytes → (how ≡ status.Script fault) ↔ (IsUnbroken how × (fault_of bytes (limits_in name) ≡ Some fault)))
+    exactly how None h = tt
+    exactly status.Ok (Some input) h = absurd h
+    exactly status.Usage (Some input) h = absurd h
+    exactly (status.Script told) (Some input) h = λ bytes fault same.
+        let is : fault_of bytes (limits_in name) ≡ Some told = input_fault input bytes (limits_in name) same ∙ ap (λ (l : Limits). fault_of input l) (sym are) ∙ ap (λ (xs : List ℕ). fault_of xs limits) h.0.told ∙ h.0.is in
+        ((λ said. let e : told ≡ fault = cc in (((λ x. cc), (λ x. cc)), is ∙ ap (λ (f : ScriptErr). Some f) e)), (λ has. let e : told ≡ fault = cc in ap (λ (f : ScriptErr). status.Script f) e))
+    exactly status.ReadFault (Some input) h = λ bytes fault same. ((λ said. absurd cc), (λ has. absurd (has.0.0 refl)))
+    exactly status.WriteFault (Some input) h = absurd h
+    exactly status.Memory (Some input) h = λ bytes fault same. ((λ said. absurd cc), (λ has. absurd (has.0.1 refl)))

@@ -3,6 +3,8 @@ use Rattle.std.specs.Prelude.{◌≡◌, ◌≢◌, ◌↔◌, ℕ, ◌⊎◌, L
 use Rattle.std.specs.declared.alloc.Global.{Global}
 use Rattle.play_io.specs.Faults.{Rose}
 use Rattle.world_model.specs.Sizes.{Sizes}
+use Rattle.world_model.specs.Histories.{Legal}
+use Rattle.world_model.specs.Follows.{Headline}
 use Rattle.level_script.specs.declared.limits.Limits.{Limits}
 use Rattle.level_script.specs.declared.cause.ScriptErr.{ScriptErr}
 use Rattle.level_script.specs.declared.script.Script.{Script}
@@ -60,13 +62,21 @@ WasTaken left now = IfSome left (λ input. now ≡ Some (behind input))
 
 -- ---- reading
 
--- the input is this script
-abbrev pub IsScript : Limits → Option (List ℕ) → Script → Type 0
-IsScript limits left script = IfSome left (λ input. script_of input limits ≡ Some script)
+-- these are the bytes that the source had, where it tells them
+abbrev pub AreLeft : Option (List ℕ) → List ℕ → Type 0
+AreLeft left bytes = IfSome left (λ input. input ≡ bytes)
 
--- the input has this fault
-abbrev pub HasFault : Limits → Option (List ℕ) → ScriptErr → Type 0
-HasFault limits left fault = IfSome left (λ input. fault_of input limits ≡ Some fault)
+-- there is an input, of the bytes that the source had, and it is this script
+pub record IsScript (limits : Limits) (left : Option (List ℕ)) (script : Script) : Type 0 where
+  pub input : List ℕ
+  pub told : AreLeft left input
+  pub is : script_of input limits ≡ Some script
+
+-- there is an input, of the bytes that the source had, and it has this fault
+pub record HasFault (limits : Limits) (left : Option (List ℕ)) (fault : ScriptErr) : Type 0 where
+  pub input : List ℕ
+  pub told : AreLeft left input
+  pub is : fault_of input limits ≡ Some fault
 
 -- why no script was read
 abbrev pub Refuses : Limits → Option (List ℕ) → Option (List ℕ) → ℕ → ℕ → Status → Type 0
@@ -139,9 +149,10 @@ IsUnbroken how = (how ≢ status.ReadFault) × (how ≢ status.Memory)
 abbrev pub IsInput : List ℕ → List ℕ → Type 0
 IsInput input bytes = (bytes ≡ input) ⊎ (bytes ≡ take 16777217 input)
 
--- The status is that of a fault exactly where the whole input, or its first 16,777,217 bytes, has that fault, and neither a fault of the source nor want of memory ended the run.
-abbrev pub NamesFault : ShapeName → Option (List ℕ) → Status → Type 0
-NamesFault name left how = IfSome left (λ input. (bytes : List ℕ) (fault : ScriptErr) → IsInput input bytes → (how ≡ status.Script fault) ↔ (IsUnbroken how × (fault_of bytes (limits_in name) ≡ Some fault)))
+-- The status is that of a fault only where there is an input that has it; and where the source tells its bytes, exactly where all of them, or their first 16,777,217, have that fault, and neither a fault of the source nor want of memory ended the run.
+pub record NamesFault (name : ShapeName) (left : Option (List ℕ)) (how : Status) : Type 0 where
+  pub has : (fault : ScriptErr) → how ≡ status.Script fault → HasFault (limits_in name) left fault
+  pub exactly : IfSome left (λ input. (bytes : List ℕ) (fault : ScriptErr) → IsInput input bytes → (how ≡ status.Script fault) ↔ (IsUnbroken how × (fault_of bytes (limits_in name) ≡ Some fault)))
 
 -- where the input is a script or has a fault that was told, it was taken up to its end, or to one byte past the limit
 abbrev pub SaysTaken : Option (List ℕ) → Option (List ℕ) → Status → Option Run → Type 0
@@ -159,19 +170,33 @@ abbrev pub SaysWrite : ℕ → ℕ → Status → Type 0
 SaysWrite before now status.WriteFault = Rose before now
 SaysWrite before now _ = now ≡ before
 
--- The headline: the whole input is a script, nothing of it is left, one legal history of this engine plays it, and the sink gained exactly its text.
-abbrev pub Headline : Words → Option (List ℕ) → Option (List ℕ) → Option (List ℕ) → Option (List ℕ) → Option Run → Type 0
-Headline w left now had has r = IfSome left (λ input. IfSome r (λ engine.
-    (script : Script) × (script_of input (limits_in w.shape) ≡ Some script) × (now ≡ Some []) × Played (sizes_of w.shape) w.slice (header_of script) script.lines (history_of engine) had has))
+-- The headline: the whole input, of which nothing is left, is a script, one legal history of this engine plays it, and the sink gained exactly its text.
+pub record EndsWell (w : Words) (left now had has : Option (List ℕ)) (engine : Run) : Type 0 where
+  pub script : Script
+  pub read : IsScript (limits_in w.shape) left script
+  pub all : IfSome left (λ input. now ≡ Some [])
+  pub played : Played (sizes_of w.shape) w.slice (header_of script) script.lines (history_of engine) had has
 
 -- After a fault of the sink, or without memory: the input is a script, the history of this engine plays its first lines, of the next perhaps some calls, and the sink gained a beginning of the text.
-abbrev pub EndsEarly : Words → Option (List ℕ) → Option (List ℕ) → Option (List ℕ) → ℕ → Run → Type 0
-EndsEarly w left had has count engine =
-    IfSome left (λ input. (script : Script) × (script_of input (limits_in w.shape) ≡ Some script) × Stopped (sizes_of w.shape) w.slice (header_of script) script.lines (history_of engine) had has count)
+pub record EndsEarly (w : Words) (left had has : Option (List ℕ)) (count : ℕ) (engine : Run) : Type 0 where
+  pub script : Script
+  pub read : IsScript (limits_in w.shape) left script
+  pub stopped : Stopped (sizes_of w.shape) w.slice (header_of script) script.lines (history_of engine) had has count
 
 -- the sink gained the outcome of the script that the input is
-abbrev pub WritesOutcome : ShapeName → Option (List ℕ) → Option (List ℕ) → Option (List ℕ) → Type 0
-WritesOutcome name left had has = IfSome left (λ input. (script : Script) × (script_of input (limits_in name) ≡ Some script) × Gained had has (outcome (sizes_of name) (header_of script) script.lines))
+pub record WritesOutcome (name : ShapeName) (left had has : Option (List ℕ)) : Type 0 where
+  pub script : Script
+  pub read : IsScript (limits_in name) left script
+  pub gained : Gained had has (outcome (sizes_of name) (header_of script) script.lines)
+
+-- A history is legal, and all that is promised of legal histories holds of it: only whole units that no root reaches are removed, each removed object is begun at most once and finished at most once after that, and a weak pointer gives its own object or nothing.
+pub record KeepsPromise (z : Sizes) (history : List Entry) : Type 0 where
+  pub legal : Legal z history
+  pub headline : Headline z history
+
+-- this is so of the history of the engine that played
+abbrev pub RunKeepsPromise : Run → Type 0
+RunKeepsPromise engine = KeepsPromise (sizes_of (shape_played engine)) (history_of engine)
 
 -- the number is that of the line feeds that the sink gained
 abbrev pub CountsLines : Option (List ℕ) → Option (List ℕ) → ℕ → Type 0

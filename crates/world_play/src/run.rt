@@ -3,7 +3,7 @@ ghost use Rattle.std.specs.Prelude.{◌≡◌, ◌≢◌, ◌≤◌, ◌↔◌, 
 ghost use Rattle.level_script.specs.Frames.{IsPlayable};
 ghost use Rattle.level_script.specs.Context.{AreLawful};
 ghost use Rattle.world_play.specs.Words.{sizes_of};
-ghost use Rattle.world_play.specs.Ends.{said, shape_said, limits_of, limits_in, history_of, HasShape, WasTaken, IsScript, Refuses, IsBefore, WritesFault, HasRun, WasPlayed, OnDone, OnStopped, OnNone, NamesFault, SaysTaken, SaysRead, SaysWrite, Headline, EndsEarly, WritesOutcome, CountsLines, TellsScript, Completes, IsSure};
+ghost use Rattle.world_play.specs.Ends.{said, shape_said, limits_of, limits_in, history_of, HasShape, WasTaken, IsScript, Refuses, IsBefore, WritesFault, HasRun, WasPlayed, OnDone, OnStopped, OnNone, NamesFault, SaysTaken, SaysRead, SaysWrite, EndsWell, EndsEarly, KeepsPromise, RunKeepsPromise, WritesOutcome, CountsLines, TellsScript, Completes, IsSure};
 ghost use Rattle.world_play.specs.declared.status.Status.TheVariants as status;
 
 use crate::header::Header;
@@ -16,7 +16,8 @@ use level_script::{Limits, ParseErr, Script, parse};
 use play_io::{NoPace, Pace, PutErr, Sink, Source, SureSink, SureSource};
 use std::alloc::Global;
 use std::thread::Threads;
-use world_model::{Level, Shape, Small};
+use world_model::follows::headline;
+use world_model::{Engine, Level, Shape, Small};
 
 /// The most bytes of an input.
 const LIMIT: usize = 16777216;
@@ -115,6 +116,7 @@ fn perform<S: Shape, K: Sink>(
     requires playable { IsPlayable (limits_of S.sizes) script.now }
     ensures write { WritesFault (K.faults out.old) (K.faults out.new) result.status }
     ensures run { HasRun result.status result.engine }
+    ensures promise { IfSome result.engine (λ heap. KeepsPromise S.sizes heap.history) }
     ensures played { WasPlayed S.sizes slice result.status script.now (option_map (λ heap. heap.history) result.engine) (K.held out.old) (K.held out.new) result.lines }
     ensures unplayed { OnNone result.engine (out.new ≡ out.old) }
 {
@@ -145,6 +147,8 @@ fn perform<S: Shape, K: Sink>(
         Err(PutErr::Failed) => Status::WriteFault,
         Err(PutErr::Memory) => Status::Memory,
     };
+    engine.lawful();
+    headline();
     Performed {
         status,
         lines,
@@ -158,6 +162,7 @@ fn perform_in<K: Sink>(alloc: Global, script: &Script, words: Words, out: &mut K
     requires playable { IsPlayable (limits_in words.shape) script.now }
     ensures write { WritesFault (K.faults out.old) (K.faults out.new) result.status }
     ensures run { HasRun result.status result.run }
+    ensures promise { IfSome result.run RunKeepsPromise }
     ensures shape { HasShape words.shape result.run }
     ensures played { WasPlayed (sizes_of words.shape) words.slice result.status script.now (option_map history_of result.run) (K.held out.old) (K.held out.new) result.lines }
     ensures unplayed { OnNone result.run (out.new ≡ out.old) }
@@ -192,9 +197,10 @@ fn play_words<S: Source, K: Sink>(alloc: Global, words: Words, script: &mut S, o
     ensures write_fault { SaysWrite (K.faults out.old) (K.faults out.new) result.status }
     ensures complete { Completes words.shape (S.left script.old) (S.faults script.old) (S.faults script.new) (K.faults out.old) (K.faults out.new) result.status }
     ensures run { HasRun result.status result.run }
+    ensures promise { IfSome result.run RunKeepsPromise }
     ensures shape { HasShape words.shape result.run }
     ensures unplayed { OnNone result.run (out.new ≡ out.old) }
-    ensures headline { OnDone result.status (Headline words (S.left script.old) (S.left script.new) (K.held out.old) (K.held out.new) result.run) }
+    ensures headline { OnDone result.status (IfSome result.run (EndsWell words (S.left script.old) (S.left script.new) (K.held out.old) (K.held out.new))) }
     ensures outcome { OnDone result.status (WritesOutcome words.shape (S.left script.old) (K.held out.old) (K.held out.new)) }
     ensures early { OnStopped result.status result.run (EndsEarly words (S.left script.old) (K.held out.old) (K.held out.new) result.lines) }
     ensures lines { CountsLines (K.held out.old) (K.held out.new) result.lines }
@@ -234,7 +240,8 @@ pub fn worldrun<R: Threads + Sync, S: Source, K: Sink, P: Pace>(
     ensures run { HasRun result.status result.run }
     ensures shape { IfSome (shape_said words.now) (λ shape. HasShape shape result.run) }
     ensures unplayed { OnNone result.run (out.new ≡ out.old) }
-    ensures headline { IfSome (said words.now) (λ w. OnDone result.status (Headline w (S.left script.old) (S.left script.new) (K.held out.old) (K.held out.new) result.run)) }
+    ensures headline { IfSome (said words.now) (λ w. OnDone result.status (IfSome result.run (EndsWell w (S.left script.old) (S.left script.new) (K.held out.old) (K.held out.new)))) }
+    ensures promise { IfSome result.run RunKeepsPromise }
     ensures outcome { IfSome (shape_said words.now) (λ shape. OnDone result.status (WritesOutcome shape (S.left script.old) (K.held out.old) (K.held out.new))) }
     ensures early { IfSome (said words.now) (λ w. OnStopped result.status result.run (EndsEarly w (S.left script.old) (K.held out.old) (K.held out.new) result.lines)) }
     ensures lines { CountsLines (K.held out.old) (K.held out.new) result.lines }
@@ -260,7 +267,8 @@ pub fn run_in_memory<R: Threads + Sync>(
     ensures sure { IsSure result.status }
     ensures complete { IfSome (shape_said words.now) (λ shape. TellsScript shape (Some script.old) → (result.status ≡ status.Ok) ⊎ (result.status ≡ status.Memory)) }
     ensures outcome { IfSome (shape_said words.now) (λ shape. OnDone result.status (WritesOutcome shape (Some script.old) (Some out.old) (Some out.new))) }
-    ensures headline { IfSome (said words.now) (λ w. OnDone result.status (Headline w (Some script.old) (Some script.new) (Some out.old) (Some out.new) result.run)) }
+    ensures headline { IfSome (said words.now) (λ w. OnDone result.status (IfSome result.run (EndsWell w (Some script.old) (Some script.new) (Some out.old) (Some out.new)))) }
+    ensures promise { IfSome result.run RunKeepsPromise }
     ensures early { IfSome (said words.now) (λ w. OnStopped result.status result.run (EndsEarly w (Some script.old) (Some out.old) (Some out.new) result.lines)) }
     ensures script { IfSome (shape_said words.now) (λ shape. NamesFault shape (Some script.old) result.status) }
     ensures taken { SaysTaken (Some script.old) (Some script.new) result.status result.run }
