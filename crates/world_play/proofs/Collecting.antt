@@ -10,9 +10,9 @@ use Rattle.world_model.specs.CollectorSteps.{SweepMay}
 use Rattle.world_model.specs.Histories.{Legal, LegalFrom, state_of, after}
 use Rattle.world_model.specs.Calls.{by, CallOf, SlicesAlone, SlicesUntilIdle, Appends}
 use Rattle.world_model.proofs.Joins.{run-append, by-append, legal_split}
-use Rattle.world_model.proofs.Solo.{state_after, state_after_one, legal_call, slices_closed}
+use Rattle.world_model.proofs.Solo.{state_after, state_after_one, legal_call}
 use Rattle.world_model.proofs.Progress.{left_to_scan, slice_progress, slice_world, idle_black, commit_done, started_world}
-use Rattle.world_model.specs.Engines.{Holdings, KeepsHeld, no_slice}
+use Rattle.world_model.specs.Engines.{Holdings, KeepsHeld}
 use Rattle.std.specs.List.{AllByRecursion}
 use Rattle.world_play.specs.Header.{Header}
 use Rattle.world_play.specs.Types.{Name, Gathering, Marker, Collector, Begin, Commit, Marked, MarkStop, Swept, SweepStop, Act, Entry, Reply}
@@ -62,7 +62,6 @@ still_marking z mid new budget reply now h =
     let world = slice_world z mid new 0 budget reply h in
     record {
       legal = h.legal;
-      alone = slices_closed z mid new (Marker 0) (act.Slice budget reply) h now.alone;
       marking = world.0 ∙ now.marking;
       closed = world.1 now.closed;
     }
@@ -153,7 +152,7 @@ finds_more z old mid new budget reply found names on h more why =
       names = swept_names z old mid new budget reply found names on.names h;
       few = rw world.1 (omega (arith, on.few, world.4, length-append found names));
       opened = world.6 ∙ on.opened;
-      now = record { legal = h.legal; alone = slices_closed z mid new Collector (act.Sweep budget reply names) h on.now.alone; gathering = world.0 ∙ on.now.gathering };
+      now = record { legal = h.legal; gathering = world.0 ∙ on.now.gathering };
     }
   where
     whole : (after mid).swept + reply.looked < item_count z → reply.found ≡ length names → length names ≤ reply.looked → reply.looked ≤ budget → ((reply.looked ≡ budget) ⊎ (reply.found ≡ min budget (item_count z))) → reply.looked ≡ budget
@@ -191,7 +190,6 @@ finds_all z old mid new budget reply found names on h other =
       opened = ap (λ (s : State). s.world.opened) (state_after_one z mid new Collector (act.Sweep budget reply names) h h.call) ∙ on.opened;
       now = record {
         legal = h.legal;
-        alone = slices_closed z mid new Collector (act.Sweep budget reply names) h on.now.alone;
         idle = ap (λ (s : State). s.world.phase) (state_after_one z mid new Collector (act.Sweep budget reply names) h h.call) ∙ ap (λ (why : SweepStop). settled (after mid).phase why) settled_now;
       };
     }
@@ -224,7 +222,7 @@ committed_all z mid new reply h now black =
     let one : h.acts ≡ act.CommitGc commit.Done ∷ [] = h.call.are ∙ ap (λ (r : Commit). act.CommitGc r ∷ []) done in
     let left : state_of new ≡ next (state_of mid) (record { pass = Collector; act = act.CommitGc commit.Done }) =
     state_after z mid new Collector (act.CommitGc reply) h ∙ ap (λ (acts : List Act). run (state_of mid) (by Collector acts)) one in (
-      record { legal = h.legal; alone = slices_closed z mid new Collector (act.CommitGc reply) h now.alone; gathering = ap (λ (s : State). s.world.phase) left },
+      record { legal = h.legal; gathering = ap (λ (s : State). s.world.phase) left },
       ap (λ (s : State). s.world.opened) left,
       h.grown ∙ ap (λ (acts : List Act). mid ++ by Collector acts) one,
       ap (λ (s : State). s.world.found) left,
@@ -252,10 +250,10 @@ refused_opened z old new (begin.Frames n) other h = ap (λ (s : State). s.world.
 pub start_closed : (z : Sizes) (old new : List Entry) → Appends z old new Collector (act.BeginGc begin.Started) → (after old).opened ≡ []
 start_closed z old new h = (subst (LegalFrom z (state_of old)) (ap (by Collector) h.call.are) (legal_call z old new Collector (act.BeginGc begin.Started) h)).0.may.1
 
-pub starts_marking : (z : Sizes) (old new : List Entry) → Appends z old new Collector (act.BeginGc begin.Started) → IsTrue (no_slice (after old)) → IsMarking z new
-starts_marking z old new h alone =
+pub starts_marking : (z : Sizes) (old new : List Entry) → Appends z old new Collector (act.BeginGc begin.Started) → IsMarking z new
+starts_marking z old new h =
     let world = started_world z old new h in
-    record { legal = h.legal; alone = slices_closed z old new Collector (act.BeginGc begin.Started) h alone; marking = world.0; closed = world.1 }
+    record { legal = h.legal; marking = world.0; closed = world.1 }
 
 -- the pieces of a whole collection in a row
 pieces : (old mid new a b c : List Entry) (begins : List Entry) → mid ≡ old ++ begins → new ≡ ((mid ++ a) ++ b) ++ c → new ≡ old ++ (((begins ++ a) ++ b) ++ c)
@@ -312,7 +310,6 @@ collects_all z budget header old mid new before between now r h held on =
           (by_no_lane Collector on.sweeps tt))
           (slices_no_lane Collector on.destroys.purges tt));
       legal = on.destroys.legal;
-      alone = on.destroys.alone;
       opened = on.destroys.opened ∙ on.opened ∙ (started_world z old mid h).1 ∙ sym (start_closed z old mid h);
       held = λ lane ref is. on.held lane ref (held lane ref is);
     }

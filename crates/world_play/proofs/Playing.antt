@@ -79,8 +79,6 @@ gc_turned z budget header old new before now lanes played cmd.GcFull r fit kept 
   turn = (h.piece, h.grown, (h.calls, h.answer, refl));
   frames = ap (λ opened. frames_of (record (after new) { opened = opened })) h.opened;
   numbers = refl;
-  legal = h.legal;
-  alone = h.alone;
   kept = kept_on before now lanes played h.held kept;
   made = made_on header (after old) (after new) h.kinds made;
   told = subst (HasText header.classes.classes) (sym h.answer) (gc_text header.classes.classes (run (state_of old) h.piece).world (first_begin h.piece));
@@ -155,18 +153,18 @@ breaks z budget header old new names l held h = record { part = h.part; some = [
     go (inr piece) = inr (piece, start_none _ _)
 
 -- a line all of whose calls were made
-pub turned_broken : (z : Sizes) (budget : ℕ) (header : Header) (old new : List Entry) (holds : Holdings) (before now : List LaneVariables) (played : ℕ) (w : Who) (what : Cmd) (r : Reply) → Turned z budget header old new holds before now played w what r → Broken z budget header old new (shown before) w what
-turned_broken z budget header old new holds before now played w what r t = record { part = t.turn.0; grown = t.turn.1; made = inr t.turn.2.0; legal = t.legal }
+pub turned_broken : (z : Sizes) (budget : ℕ) (header : Header) (old new : List Entry) (holds : Holdings) (before now : List LaneVariables) (played : ℕ) (w : Who) (what : Cmd) (r : Reply) → Legal z new → Turned z budget header old new holds before now played w what r → Broken z budget header old new (shown before) w what
+turned_broken z budget header old new holds before now played w what r legal t = record { part = t.turn.0; grown = t.turn.1; made = inr t.turn.2.0; legal = legal }
 
 -- a line whose reply was put in part
 pub puts_part : (z : Sizes) (budget : ℕ) (header : Header) (old new : List Entry) (holds : Holdings) (before now : List LaneVariables) (played : ℕ) (l : Line) (r : Reply) (had has : Option (List ℕ))
-    → Turned z budget header old new holds before now played l.who l.cmd r → GainedStart had has (text_of header.classes.classes r) → Unanswered z budget header old new (shown before) l had has
-puts_part z budget header old new holds before now played l r had has t g = record {
+    → Legal z new → Turned z budget header old new holds before now played l.who l.cmd r → GainedStart had has (text_of header.classes.classes r) → Unanswered z budget header old new (shown before) l had has
+puts_part z budget header old new holds before now played l r had has legal t g = record {
   part = t.turn.0;
   some = g.0;
   grown = t.turn.1;
   stops = inr (t.turn.2.0, subst (λ (q : Reply). IsStart g.0 (text_of header.classes.classes q)) t.turn.2.1 g.1);
-  legal = t.legal;
+  legal = legal;
   put = g.2;
 }
 

@@ -11,7 +11,7 @@ use Rattle.world_model.specs.Histories.{LegalFrom, state_of, after}
 use Rattle.world_model.specs.Calls.{by, PurgesAlone, Appends}
 use Rattle.world_model.specs.Hooks.{ReadyTest, Meets, MeetTest, SameTest, class_of}
 use Rattle.world_model.proofs.Joins.{run-append, by-append, legal_split}
-use Rattle.world_model.proofs.Solo.{state_after, legal_call, slices_closed}
+use Rattle.world_model.proofs.Solo.{state_after, legal_call}
 use Rattle.world_play.specs.Header.{Header}
 use Rattle.world_play.specs.Types.{Name, ClassId, Phase, Idle, Purged, Collector, Act, Entry}
 use Rattle.world_play.specs.Types.act
@@ -143,7 +143,7 @@ destroys_more z budget header old mid new bound rest b steps left e on h some mo
             ∙ ap (λ (es : List Entry). old ++ es) (ap (λ (es : List Entry). flat_map (by Collector) on.purges ++ es) (sym (append-nil (by Collector h.acts))) ∙ sym (flat_map-append (by Collector) on.purges (h.acts ∷ [])));
         found = ap (λ (w : World). w.found) leaves.world ∙ on.found;
         opened = ap (λ (w : World). w.opened) leaves.world ∙ on.opened;
-        swept = record { legal = h.legal; alone = slices_closed z mid new Collector (act.PurgeGc b (purge.Ran steps left)) h on.swept.alone; idle = idle };
+        swept = record { legal = h.legal; idle = idle };
       },
       left_idle (after new) left idle leaves.rest,
       omega (arith, leaves.within, e),
@@ -163,7 +163,6 @@ destroys_all z budget header old mid rest on over = record {
   found = on.found;
   opened = on.opened;
   legal = on.swept.legal;
-  alone = on.swept.alone;
 }
 
 -- ---- what the hooks answer

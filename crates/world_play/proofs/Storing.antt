@@ -5,7 +5,7 @@ use Rattle.world_model.specs.Sizes.{Sizes}
 use Rattle.world_model.specs.Histories.{state_of, after}
 use Rattle.world_model.specs.Calls.{by, Appends}
 use Rattle.world_model.specs.Engines.{Holdings, KeepsHeld}
-use Rattle.world_model.proofs.Solo.{state_after_one, slices_closed}
+use Rattle.world_model.proofs.Solo.{state_after_one}
 use Rattle.std.specs.Option.{option_map_or}
 use Rattle.world_model.specs.World.{World, kind_of, refs_of, plain_of}
 use Rattle.class_schema.specs.Table as table
@@ -151,8 +151,6 @@ module _ (z : Sizes) (budget : ℕ) (header : Header) (old new : List Entry) (he
         turn = (_, h.grown, (piece, says, sym names));
         frames = opened ∙ frames;
         numbers = refl;
-        legal = h.legal;
-        alone = slices_closed _ _ _ _ _ h ready.alone;
         kept = kept_on _ _ _ _ keeps ready.kept;
         made = made_on _ _ _ kinds ready.made;
         told = told;
@@ -166,8 +164,6 @@ module _ (z : Sizes) (budget : ℕ) (header : Header) (old new : List Entry) (he
         turn = ([], sym (append-nil old), (piece, says, sym names));
         frames = frames;
         numbers = refl;
-        legal = ready.legal;
-        alone = ready.alone;
         kept = kept_on _ _ _ _ keeps ready.kept;
         made = ready.made;
         told = told;

@@ -1,11 +1,11 @@
 -- What the stages of a whole collection leave.
-use Rattle.std.specs.Prelude.{◌≡◌, ◌≤◌, ◌⊎◌, ◌*◌, ℕ, List, [], ◌∷◌, ◌++◌, flat_map, length, IsTrue}
+use Rattle.std.specs.Prelude.{◌≡◌, ◌≤◌, ◌⊎◌, ◌*◌, ℕ, List, [], ◌∷◌, ◌++◌, flat_map, length}
 use Rattle.world_model.specs.Sizes.{Sizes, item_count}
 use Rattle.world_model.specs.State.{grey_units}
 use Rattle.world_model.specs.Next.{run}
 use Rattle.world_model.specs.Histories.{state_of, after, Legal}
 use Rattle.world_model.specs.Calls.{by, SlicesUntilIdle}
-use Rattle.world_model.specs.Engines.{Holdings, KeepsHeld, no_slice}
+use Rattle.world_model.specs.Engines.{Holdings, KeepsHeld}
 use Rattle.world_play.specs.Header.{Header}
 use Rattle.world_play.specs.Types.{Name, Idle, Marking, Gathering, Marker, Collector, Act, Entry, Reply}
 use Rattle.world_play.specs.Types.act
@@ -17,7 +17,6 @@ use Rattle.world_play.specs.Plays.{SlicesSpent, SweepsMore, SweepsAll, PurgesAll
 -- a collection marks, and nothing is open
 pub record IsMarking (z : Sizes) (history : List Entry) : Type 0 where
   pub legal : Legal z history
-  pub alone : IsTrue (no_slice (after history))
   pub marking : (after history).phase ≡ Marking
   pub closed : (after history).opened ≡ []
 
@@ -39,13 +38,11 @@ pub record MarksOn (z : Sizes) (old new : List Entry) (budget : ℕ) : Type 0 wh
 -- what a collection removed is being found
 pub record IsGathering (z : Sizes) (history : List Entry) : Type 0 where
   pub legal : Legal z history
-  pub alone : IsTrue (no_slice (after history))
   pub gathering : (after history).phase ≡ Gathering
 
--- no collection runs, and no slice is open
+-- no collection runs
 pub record HasSwept (z : Sizes) (history : List Entry) : Type 0 where
   pub legal : Legal z history
-  pub alone : IsTrue (no_slice (after history))
   pub idle : (after history).phase ≡ Idle
 
 -- sweeps found all that was removed
@@ -87,7 +84,6 @@ pub record Destroys (z : Sizes) (budget : ℕ) (header : Header) (old new : List
   pub found : (after new).found ≡ (after old).found
   pub opened : (after new).opened ≡ (after old).opened
   pub legal : Legal z new
-  pub alone : IsTrue (no_slice (after new))
 
 -- the rest of a whole collection, once it has begun: it marked, was committed, found what it removed, and destroyed it
 pub record GoesOn (z : Sizes) (budget : ℕ) (header : Header) (old new : List Entry) (before now : Holdings) (r : Reply) : Type 0 where
@@ -119,6 +115,5 @@ pub record Collects (z : Sizes) (budget : ℕ) (header : Header) (old new : List
   pub answer : r ≡ full_reply (run (state_of old) piece).world (first_begin piece)
   pub kinds : (after new).kinds ≡ (after old).kinds
   pub legal : Legal z new
-  pub alone : IsTrue (no_slice (after new))
   pub opened : (after new).opened ≡ (after old).opened
   pub held : KeepsHeld before now

@@ -6,7 +6,7 @@ use Rattle.class_schema.specs.Table as table
 use Rattle.class_schema.specs.Lawful.{IsSchema}
 use Rattle.world_model.specs.State.{State, beginning}
 use Rattle.world_model.specs.Histories.{state_of, after, Legal}
-use Rattle.world_model.specs.Engines.{Holdings, no_slice}
+use Rattle.world_model.specs.Engines.{Holdings}
 use Rattle.world_play.specs.Header.{Header}
 use Rattle.world_play.specs.Types.{Name, Kind, Entry, Line, Who, Cmd, Reply, Lane}
 use Rattle.world_play.specs.Plays.{Bindings, no_bindings, IsPiece, IsPart, reply_in, TurnBy, Plays, text, entries_of, fits_by, frames_by}
@@ -28,8 +28,6 @@ pub record AreMade (header : Header) (w : World) : Type 0 where
 pub record IsReady (z : Sizes) (history : List Entry) (holds : Holdings) (lanes : List LaneVariables) (played : ℕ) (header : Header) (by : Who) (what : Cmd) : Type 0 where
   pub fit : fits_by z.lanes (numbers_of lanes) header (frames_of (after history)) by what ≡ true
   pub count : length lanes ≡ z.lanes
-  pub legal : Legal z history
-  pub alone : IsTrue (no_slice (after history))
   pub kept : AreKept holds lanes played
   pub room : played + 1 < 2 ^ 64
   pub slots : header.classes.slots ≡ z.slots
@@ -41,8 +39,6 @@ pub record Turned (z : Sizes) (budget : ℕ) (header : Header) (old new : List E
   pub turn : (piece : List Entry) × (new ≡ old ++ piece) × TurnBy budget header (state_of old) (shown before) by what piece r (shown now)
   pub frames : frames_of (after new) ≡ frames_by (frames_of (after old)) by what
   pub numbers : numbers_of now ≡ numbers_of before
-  pub legal : Legal z new
-  pub alone : IsTrue (no_slice (after new))
   pub kept : AreKept holds now (played + 1)
   pub made : AreMade header (after new)
   pub told : HasText header.classes.classes r

@@ -1,7 +1,7 @@
 //! Whole collections.
-ghost use Rattle.std.specs.Prelude.{◌≡◌, ◌≢◌, ◌≤◌, length, IfOk, OnErr, IsTrue};
-ghost use Rattle.world_model.specs.Histories.{after, Legal};
-ghost use Rattle.world_model.specs.Engines.{KeepsHeld, no_slice};
+ghost use Rattle.std.specs.Prelude.{◌≡◌, ◌≢◌, ◌≤◌, length, IfOk, OnErr};
+ghost use Rattle.world_model.specs.Histories.{after};
+ghost use Rattle.world_model.specs.Engines.{KeepsHeld};
 ghost use Rattle.world_model.specs.World.{World, left_of};
 ghost use Rattle.world_play.specs.Types.begin;
 ghost use Rattle.world_play.specs.Types.cmd;
@@ -141,8 +141,6 @@ pub(crate) fn full<S: Shape, E: Engine<S>>(
     budget: u32,
 ) -> Result<Reply, AllocError>
     requires some { 1 ≤ budget }
-    requires legal { Legal S.sizes (E.history engine.old) }
-    requires alone { IsTrue (no_slice (after (E.history engine.old))) }
     ensures all { IfOk result (λ reply. Collects S.sizes budget header.now (E.history engine.old) (E.history engine.new) (E.holds engine.old) (E.holds engine.new) reply) }
     ensures some { OnErr result ((names : Bindings) → Broken S.sizes budget header.now (E.history engine.old) (E.history engine.new) names who.Gc cmd.GcFull) }
 {

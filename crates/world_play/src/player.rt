@@ -36,6 +36,7 @@ fn play_line<S: Shape, E: Engine<S>, K: Sink>(
     let Ok(reply) = turn::<S, E>(alloc, engine, header, lanes, played, budget, line) else {
         return Err(PutErr::Memory);
     };
+    engine.lawful();
     let Ok(text) = text::line(alloc, header.classes, &reply) else {
         return Err(PutErr::Memory);
     };
@@ -75,5 +76,6 @@ pub fn play<S: Shape, E: Engine<S>, K: Sink>(
         play_line::<S, E, K>(alloc, engine, header, lanes, played, budget, line, out)?;
         *written += 1;
     }
+    engine.lawful();
     Ok(())
 }

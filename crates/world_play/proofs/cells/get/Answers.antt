@@ -3,7 +3,6 @@ use Rattle.std.proofs.lemmas.List.{length-set}
 use Rattle.std.proofs.lemmas.Option.{slice_get-get_or}
 use Rattle.world_model.specs.Calls.{by, Appends}
 use Rattle.world_model.specs.Histories.{state_of, after}
-use Rattle.world_model.proofs.Solo.{slices_closed}
 use Rattle.class_schema.specs.Layout.{is_ref}
 use Rattle.world_play.specs.Types.{Name, Ref, Lane, Entry}
 use Rattle.world_play.specs.Types.act
@@ -57,8 +56,6 @@ returns-in-Ok g c budget =
       );
       frames = read_frames _ _ _ _ _ _ _ h;
       numbers = numbers_set _ lane l _ at (ap length c.bind.ensures.slots ∙ length-set _ _ _);
-      legal = h.legal;
-      alone = slices_closed _ _ _ _ _ h c.requires.alone;
       kept = bind_kept _ _ _ lane c.args.var l _ got at inside c.bind.ensures.frame c.bind.ensures.slots var c.read_ref-got.ensures.given (kept_on _ _ _ _ (λ i r held. c.read_ref-got.ensures.held i r (c.in-Ok.ensures.held i r held)) c.requires.kept);
       made = made_on _ _ _ (read_kinds _ _ _ _ _ _ _ h) c.requires.made;
       told = tt;
@@ -90,8 +87,6 @@ returns-in-Err g c budget =
       );
       frames = refl;
       numbers = numbers_set _ lane l _ at (ap length c.bind-in-Err.ensures.slots ∙ length-set _ _ _);
-      legal = c.requires.legal;
-      alone = c.requires.alone;
       kept = bind_kept _ _ _ lane c.args.var l _ None at inside c.bind-in-Err.ensures.frame c.bind-in-Err.ensures.slots var tt (kept_on _ _ _ _ c.in-Err.ensures.held c.requires.kept);
       made = c.requires.made;
       told = spot_refused (HasText c.args.header.now.classes.classes) lane tt tt tt tt c.args.header.now kinds is_ref (shown lanes lane c.args.spot.var) c.args.spot r seen;

@@ -6,11 +6,10 @@ use Rattle.world_model.specs.Next.{run}
 use Rattle.world_model.specs.Histories.{state_of}
 use Rattle.world_model.specs.Calls.{by}
 use Rattle.world_play.specs.Types.{Collector}
-use Rattle.world_model.proofs.Solo.{slices_closed}
 use Rattle.world_play.proofs.collection.full.Goals as goal
 
 pub go_on-requires-clause-marking : goal.go_on-requires-clause-marking
-go_on-requires-clause-marking g c = starts_marking _ _ _ c.in-Started.ensures.entries c.requires.alone
+go_on-requires-clause-marking g c = starts_marking _ _ _ c.in-Started.ensures.entries
 
 pub returns-in-Started : goal.returns-in-Started
 returns-in-Started g c = record {
@@ -34,7 +33,6 @@ returns-in_default g c =
         answer = c.refusal.ensures world ∙ ap (full_reply world) (sym first);
         kinds = collected_kinds _ _ _ _ h.grown h.legal (by_no_lane Collector h.acts tt);
         legal = h.legal;
-        alone = slices_closed _ _ _ _ _ h c.requires.alone;
         opened = refused_opened _ _ _ c.begin.result c.in_default.not-Started h;
         held = c.begin.ensures.held;
       };

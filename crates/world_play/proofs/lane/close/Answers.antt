@@ -1,6 +1,5 @@
 use Rattle.std.proofs.Common.{refl, ap, length, get_or}
 use Rattle.std.proofs.lemmas.Option.{slice_get-get_or}
-use Rattle.world_model.proofs.Solo.{slices_closed}
 use Rattle.world_play.proofs.Playing.{made_on}
 use Rattle.world_play.proofs.Keeping.{end_shown, end_kept, numbers_set}
 use Rattle.world_play.proofs.Turning.{close_kinds, close_frames, fit_lane, said_alone}
@@ -16,8 +15,6 @@ returns g c budget =
       turn = (_, h.grown, ((h.acts, h.call, refl), said_alone c.args.lane _ _ h.acts h.call, end_shown _ c.args.lane l _ at inside c.end.ensures.frame c.end.ensures.slots (c.requires.kept.dated c.args.lane l at)));
       frames = close_frames _ _ _ _ h;
       numbers = numbers_set _ c.args.lane l _ at (ap length c.end.ensures.slots);
-      legal = h.legal;
-      alone = slices_closed _ _ _ _ _ h c.requires.alone;
       kept = end_kept _ _ _ _ c.args.lane l _ at inside c.end.ensures.frame c.end.ensures.slots c.close_frame.ensures.held c.requires.kept;
       made = made_on _ _ _ (close_kinds _ _ _ _ h) c.requires.made;
       told = tt;

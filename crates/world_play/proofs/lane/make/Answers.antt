@@ -3,7 +3,6 @@ use Rattle.std.proofs.lemmas.List.{length-set}
 use Rattle.std.proofs.lemmas.Option.{slice_get-get_or}
 use Rattle.world_model.specs.World.{made}
 use Rattle.world_model.specs.Histories.{after}
-use Rattle.world_model.proofs.Solo.{slices_closed}
 use Rattle.class_schema.specs.Table.{kind_of}
 use Rattle.world_play.specs.Header.{Header}
 use Rattle.world_play.specs.Types.{Name, Ref, ClassId, Kind}
@@ -46,8 +45,6 @@ returns-in-Ok g c budget =
       );
       frames = make_frames _ _ _ _ _ _ h;
       numbers = numbers_set _ lane l _ at (ap length c.bind.ensures.slots ∙ length-set _ _ _);
-      legal = h.legal;
-      alone = slices_closed _ _ _ _ _ h c.requires.alone;
       kept = bind_kept _ _ _ lane c.args.var l _ (Some new) at inside c.bind.ensures.frame c.bind.ensures.slots var (c.in-Ok.ensures.given 0 none (omega (arith, c.create.auto.out))) (kept_on _ _ _ _ c.in-Ok.ensures.held c.requires.kept);
       made = made_more c.args.header.now _ _ lane c.kind-kind.result (make_kinds _ _ _ _ _ _ h) (subst (λ (k : ClassId). k.0 < length c.args.header.now.classes.classes) (sym (ap (λ (k : Kind). k.class) kind)) small) is c.requires.made;
       told = tt;
@@ -75,8 +72,6 @@ returns-in-Err g c budget =
       );
       frames = refuse_frames _ _ _ _ _ _ h;
       numbers = numbers_set _ lane l _ at (ap length c.bind-in-Err.ensures.slots ∙ length-set _ _ _);
-      legal = h.legal;
-      alone = slices_closed _ _ _ _ _ h c.requires.alone;
       kept = bind_kept _ _ _ lane c.args.var l _ None at inside c.bind-in-Err.ensures.frame c.bind-in-Err.ensures.slots var tt (kept_on _ _ _ _ c.in-Err.ensures.held c.requires.kept);
       made = made_on _ _ _ (refuse_kinds _ _ _ _ _ _ h) c.requires.made;
       told = refused_told _ lane 1 c.in-Err.why (reply.NoObject lane) _ (c.refusal.ensures (reply.NoObject lane));

@@ -1,5 +1,4 @@
 use Rattle.std.proofs.Common.{refl}
-use Rattle.world_model.proofs.Solo.{slices_closed}
 use Rattle.world_play.proofs.Keeping.{kept_on}
 use Rattle.world_play.proofs.Playing.{made_on}
 use Rattle.world_play.proofs.Turning.{open_kinds, open_frames, said_alone}
@@ -12,8 +11,6 @@ returns g c budget =
       turn = (_, h.grown, ((c.open_frame-phase.result, (h.acts, h.call, refl)), said_alone c.args.lane _ _ h.acts h.call, refl));
       frames = open_frames _ _ _ _ _ h;
       numbers = refl;
-      legal = h.legal;
-      alone = slices_closed _ _ _ _ _ h c.requires.alone;
       kept = kept_on _ _ _ _ c.open_frame-phase.ensures.held c.requires.kept;
       made = made_on _ _ _ (open_kinds _ _ _ _ _ h) c.requires.made;
       told = tt;

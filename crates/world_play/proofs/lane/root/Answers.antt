@@ -1,7 +1,6 @@
 use Rattle.std.proofs.Common.{refl, sym, ap, ◌∙◌, length, append-nil, option_map}
 use Rattle.std.proofs.lemmas.Option.{slice_get_read}
 use Rattle.world_model.specs.Histories.{state_of}
-use Rattle.world_model.proofs.Solo.{slices_closed}
 use Rattle.world_play.specs.Types.{Ref}
 use Rattle.world_play.proofs.Playing.{made_on}
 use Rattle.world_play.proofs.Keeping.{own_ref, kept_on}
@@ -17,8 +16,6 @@ returns-in_default g c budget =
       turn = (_, sym (append-nil _), (no_object (state_of (g.E.Engine.history c.args.engine.now)) c.args.lane _ c.args.on (ap (option_map (λ (r : Ref). r.name)) stands), refl, refl));
       frames = refl;
       numbers = refl;
-      legal = c.requires.legal;
-      alone = c.requires.alone;
       kept = kept_on _ _ _ _ (λ lane r h. h) c.requires.kept;
       made = c.requires.made;
       told = tt;
@@ -40,8 +37,6 @@ returns g c budget =
       turn = (_, h.grown, (an_object (state_of (g.E.Engine.history c.args.engine.now)) c.args.lane _ c.args.on c.set_root-was.result c.in-Some.at.name _ (ap (option_map (λ (r : Ref). r.name)) stands) (h.acts, h.call, refl), said_stored c.args.lane _ _ h.acts h.call, refl));
       frames = root_frames _ _ _ _ _ _ _ h;
       numbers = refl;
-      legal = h.legal;
-      alone = slices_closed _ _ _ _ _ h c.requires.alone;
       kept = kept_on _ _ _ _ c.set_root-was.ensures.held c.requires.kept;
       made = made_on _ _ _ (root_kinds _ _ _ _ _ _ _ h) c.requires.made;
       told = tt;

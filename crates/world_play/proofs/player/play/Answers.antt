@@ -23,8 +23,6 @@ loop-played-init g c = rw (c.as_mut_slice-lanes.ensures.value, c.requires.start)
   put = gained_none _;
   fit = framed_fit c.args.counts.now c.args.header.now _ _ _ c.args.lines.now (length-replicate _ false) (all_closed _) c.requires.framed;
   numbers = fresh_numbers _ _ c.in-Ok.ensures;
-  legal = tt;
-  alone = refl;
   kept = fresh_kept _ _ _ c.in-Ok.ensures;
   faults = refl;
   made = record { class = λ n k e. absurd cc; kind = λ n k e. absurd cc };
@@ -38,8 +36,6 @@ play_line-requires-clause-ready g c =
     record {
       fit = rw i.numbers fit.0;
       count = sym (length-map _ _) ∙ ap length i.numbers ∙ c.requires.lanes;
-      legal = i.legal;
-      alone = i.alone;
       kept = i.kept;
       room = omega arith;
       slots = c.requires.slots;
@@ -65,8 +61,6 @@ loop-played-preserved g c =
           (gained_both _ _ _ (text c.args.header.now beginning no_bindings before i.pieces) (text_of c.args.header.now.classes.classes a.reply) i.put a.put);
       fit = rw t.frames fit.1;
       numbers = t.numbers ∙ i.numbers;
-      legal = t.legal;
-      alone = t.alone;
       kept = t.kept;
       faults = c.in_ok-play_line.ensures.faults ∙ i.faults;
       made = t.made;

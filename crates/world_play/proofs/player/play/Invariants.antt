@@ -1,7 +1,6 @@
-use Rattle.std.proofs.Common.{◌≡◌, List, true, take, drop, IsTrue}
+use Rattle.std.proofs.Common.{◌≡◌, List, true, take, drop}
 use Rattle.world_model.specs.State.{beginning}
-use Rattle.world_model.specs.Histories.{after, Legal}
-use Rattle.world_model.specs.Engines.{no_slice}
+use Rattle.world_model.specs.Histories.{after}
 use Rattle.world_play.specs.Types.{Entry}
 use Rattle.world_play.specs.Plays.{no_bindings, Plays, text, entries_of, are_fit}
 use Rattle.world_play.specs.Streams.{Gained}
@@ -19,8 +18,6 @@ invariant-loop-played g l =
       put : Gained (g.K.Sink.held l.fn.out) (g.K.Sink.held l.out) (text l.header beginning no_bindings (take l.played l.lines) pieces);
       fit : are_fit g.S.Shape.sizes.lanes l.counts l.header (frames_of (after (history l.engine))) (drop l.played l.lines) ≡ true;
       numbers : numbers_of l.lanes ≡ l.counts;
-      legal : Legal g.S.Shape.sizes (history l.engine);
-      alone : IsTrue (no_slice (after (history l.engine)));
       kept : AreKept (g.E.Engine.holds l.engine) l.lanes l.played;
       faults : g.K.Sink.faults l.out ≡ g.K.Sink.faults l.fn.out;
       made : AreMade l.header (after (history l.engine));
