@@ -27,7 +27,8 @@ use Rattle.heap_plain.specs.Parts.{Parts, name_at, life_at, first_at, next_at, k
 use Rattle.heap_plain.specs.Sweeping.{removed_name}
 use Rattle.heap_plain.specs.Filling.{FilledAt, RowsFilled}
 use Rattle.heap_plain.specs.Stacks.{popped}
-use Rattle.heap_plain.specs.Sections.{Distinct, NamesShow, IsOfLane, IsPlace, UnitsShow, StandsAt, LivesAt, AreLinked, RootsShow, rooted_at, GarbageShow, HeldShow, WorkShows, MarksShow, RootsMarked, RemovedShow, GoneShow, LiesAt, KindsShow, CellsShow, Aims, TargetsMarked, FreeShows, spare_at, pushed_of, grey_of}
+use Rattle.world_model.specs.Engines.{IsOfLane}
+use Rattle.heap_plain.specs.Sections.{Distinct, NamesShow, IsPlace, UnitsShow, StandsAt, LivesAt, AreLinked, RootsShow, rooted_at, GarbageShow, HeldShow, WorkShows, MarksShow, RootsMarked, RemovedShow, GoneShow, LiesAt, KindsShow, CellsShow, Aims, TargetsMarked, FreeShows, spare_at, pushed_of, grey_of}
 use Rattle.heap_plain.specs.Plain.{Shows, IsPlain}
 use Rattle.heap_plain.proofs.WorldFacts.{at_set, set_at_other, has_among, among_has, among_left, among_right, test_among, among_test, any_same, unit_of_is, state_more}
 use Rattle.heap_plain.proofs.Fillings.{Lists-set, Lists-same}

@@ -14,7 +14,8 @@ use Rattle.heap_plain.specs.declared.life.Life.TheVariants.{Free}
 use Rattle.heap_plain.specs.Parts.{name_at, life_at, next_at, is_gone}
 use Rattle.heap_plain.specs.Listing.{chained}
 use Rattle.heap_plain.specs.Purging.{Stocks, lane_at, give, give_all, CanGive}
-use Rattle.heap_plain.specs.Sections.{Distinct, AreLinked, IsOfLane, FreeShows, spare_at, removal_of}
+use Rattle.world_model.specs.Engines.{IsOfLane}
+use Rattle.heap_plain.specs.Sections.{Distinct, AreLinked, FreeShows, spare_at, removal_of}
 use Rattle.heap_plain.proofs.WorldFacts.{differs}
 use Rattle.heap_plain.proofs.SliceSteps.{count_cons}
 use Rattle.heap_plain.proofs.Popping.{lane_below, lane_end}

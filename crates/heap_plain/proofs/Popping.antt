@@ -15,7 +15,8 @@ use Rattle.heap_plain.specs.declared.life.Life.TheVariants.{Free, Live}
 use Rattle.heap_plain.specs.Parts.{name_at, life_at}
 use Rattle.heap_plain.specs.Filling.{FilledAt}
 use Rattle.heap_plain.specs.Stacks.{popped, CanPop}
-use Rattle.heap_plain.specs.Sections.{IsOfLane, FreeShows, free_at, spare_at}
+use Rattle.world_model.specs.Engines.{IsOfLane}
+use Rattle.heap_plain.specs.Sections.{FreeShows, free_at, spare_at}
 
 -- ---- indexes of lanes
 

@@ -12,7 +12,8 @@ use Rattle.heap_plain.specs.Types.{Name}
 use Rattle.heap_plain.specs.declared.life.Life.{Life}
 use Rattle.heap_plain.specs.declared.life.Life.TheVariants.{Free}
 use Rattle.heap_plain.specs.Parts.{name_at, life_at, is_gone}
-use Rattle.heap_plain.specs.Sections.{IsOfLane, FreeShows, free_at, spare_at}
+use Rattle.world_model.specs.Engines.{IsOfLane}
+use Rattle.heap_plain.specs.Sections.{FreeShows, free_at, spare_at}
 use Rattle.heap_plain.proofs.Popping.{one_lane, same_lane, lane_end, lane_below}
 
 module _ {z : Sizes} {names : List (Option Name)} {lives : List Life} {free spare : List ℕ} {units : List (List Name)} {removals : List Removal} (f : FreeShows z names lives free spare units removals)

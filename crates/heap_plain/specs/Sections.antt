@@ -6,7 +6,7 @@ use Rattle.world_model.specs.Sizes.{Sizes, item_count}
 use Rattle.world_model.specs.NameLists.{same_name, same_pass, has, members}
 use Rattle.world_model.specs.World.{World, empty_world, Removal, Removed as AtRemoved, Finished as AtFinished, has_stage, destruction_order}
 use Rattle.world_model.specs.State.{Frame}
-use Rattle.world_model.specs.Engines.{is_marker}
+use Rattle.world_model.specs.Engines.{is_marker, IsOfLane}
 use Rattle.world_model.proofs.ListFacts.{Among}
 use Rattle.world_model.proofs.Queues.{IsQueue}
 use Rattle.heap_plain.specs.declared.life.Life.{Life}
@@ -35,11 +35,6 @@ pub record FramesShow (z : Sizes) (frames : List Bool) (opened : List Pass) : Ty
   pub alone : list_any is_marker opened ≡ false
 
 -- ---- names
-
--- the index is one of the lane's
-pub record IsOfLane (z : Sizes) (lane i : ℕ) : Type 0 where
-  pub low : lane * z.quota ≤ i
-  pub high : i < lane * z.quota + z.quota
 
 -- an object stands at an index of its lane, which has made it
 pub record IsPlace (z : Sizes) (kinds : ℕ → List Kind) (n : Name) (i : ℕ) : Type 0 where

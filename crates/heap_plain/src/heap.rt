@@ -1,6 +1,11 @@
 //! The engine over vectors.
 ghost use Rattle.std.specs.Prelude.{◌≡◌, ℕ, ◌+◌, ◌*◌, ◌<◌, [], IfOk};
-ghost use Rattle.heap_plain.specs.Parts.{HoldsNothing};
+ghost use Rattle.heap_plain.specs.Types.{Collector};
+ghost use Rattle.heap_plain.specs.Types.act;
+ghost use Rattle.heap_plain.specs.Types.commit;
+ghost use Rattle.heap_plain.specs.Parts.{Holds, HoldsNothing};
+ghost use Rattle.world_model.specs.Calls.{Appends};
+ghost use Rattle.world_model.specs.Engines.{KeepsHeld};
 
 use crate::creating::{answer, classify, decide, fill_popped, fill_rows, link, place, refuse};
 use crate::filled::{copy, fill, filled};
@@ -400,7 +405,12 @@ impl<S: Shape> Engine<S> for PlainHeap<S> {
         reply
     }
 
-    fn commit(&mut self) -> Commit {
+    /// Where it answers `Unfinished`, the row word is 0 and its bits are 1: a plain heap has no rows.
+    fn commit(&mut self) -> Commit
+        ensures entries { Appends S.sizes self.old.history self.new.history Collector (act.CommitGc result) }
+        ensures held { KeepsHeld (Holds self.old) (Holds self.new) }
+        ensures word { (word bits : ℕ) → result ≡ commit.Unfinished word bits → (word ≡ 0) × (bits ≡ 1) }
+    {
         let reply = may_end(
             self.phase,
             self.pushed - self.scanned,

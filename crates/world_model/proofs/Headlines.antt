@@ -16,7 +16,7 @@ use Rattle.world_model.proofs.Rounds.{has-members}
 use Rattle.world_model.proofs.Barrier.{member_lives}
 use Rattle.world_model.proofs.Removals.{reached_stay_holds, commit_removes_unreached_holds, lives_after_holds}
 use Rattle.world_model.proofs.Stages.{destroyed_once_holds, destroyed_by_stage_holds}
-use Rattle.world_model.proofs.Pairs.{none_comes_back_holds, resolve_gives_holds}
+use Rattle.world_model.proofs.Pairs.{none_comes_back_holds, resolve_gives_holds, resolve_gives_none_again_holds}
 
 -- what lived before an entry lives after it, or is removed with its whole unit
 lives_or_removed : (z : Sizes) (history : List Entry) (e : Entry) → Legal z (history ++ e ∷ []) → (n : Name) → in_world (after history) n ≡ true
@@ -65,4 +65,5 @@ headline_holds z lawful history legal = record {
   spares = λ n lives. (destroyed_by_stage_holds z history legal n).living lives;
   destroys = λ n. destroyed_once_holds z history legal n;
   resolves = λ lane pair got more n. resolve_gives_holds z lawful history lane pair got more n;
+  never_again = λ more n pair given over lane got longer. resolve_gives_none_again_holds z lawful history more n pair given over lane got longer;
 }

@@ -1,5 +1,5 @@
 -- The words of an engine's contract. An engine means two things: its history, and for each lane the references that its open frame holds.
-use Rattle.std.specs.Prelude.{◌≢◌, ◌<◌, ◌+◌, ℕ, Bool, true, false, not, List, length, Option, option_map, Result, Ok, Err, IsTrue}
+use Rattle.std.specs.Prelude.{◌≢◌, ◌<◌, ◌≤◌, ◌+◌, ◌*◌, ℕ, Bool, true, false, not, List, length, Option, option_map, Result, Ok, Err, IsTrue}
 use Rattle.std.specs.List.{list_any}
 use Rattle.world_model.specs.Types.{Name, Ref, Kind, Pass, Lane, Marker, CreateErr, DissolveErr, Act, Entry}
 use Rattle.world_model.specs.Types.act
@@ -32,6 +32,11 @@ KeepsHeld old new = (lane : ℕ) (r : Ref) → old lane r → new lane r
 -- what the other lanes held is held
 abbrev pub KeepsOthers : ℕ → Holdings → Holdings → Type 0
 KeepsOthers lane old new = (other : ℕ) (r : Ref) → other ≢ lane → old other r → new other r
+
+-- the index is one of the lane's
+pub record IsOfLane (z : Sizes) (lane i : ℕ) : Type 0 where
+  pub low : lane * z.quota ≤ i
+  pub high : i < lane * z.quota + z.quota
 
 -- the name behind a reference, if there is one
 abbrev pub name_of : Option Ref → Option Name

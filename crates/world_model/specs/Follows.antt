@@ -665,6 +665,9 @@ pub record Headline (z : Sizes) (history : List Entry) : Type 0 where
   -- a weak pointer gives an object exactly where it was given for that, and that lives and is not garbage
   pub resolves : (lane : ℕ) (pair : Weak) (got : Option Name) → Legal z (history ++ entry (Lane lane) (act.Resolve pair got) ∷ [])
       → (n : Name) → (got ≡ Some n) ↔ Gives history pair n
+  -- and once that is removed or garbage, never again
+  pub never_again : (more : List Entry) (n : Name) (pair : Weak) → WasGiven history n pair → (in_world (after history) n ≡ false) ⊎ IsTrue ((after history).garbage n)
+      → (lane : ℕ) (got : Option Name) → Legal z ((history ++ more) ++ entry (Lane lane) (act.Resolve pair got) ∷ []) → got ≡ None
 
 abbrev pub HeadlineHolds : Type 0
 HeadlineHolds = (z : Sizes) → IsLawful z → (history : List Entry) → Legal z history → Headline z history

@@ -11,7 +11,7 @@ ghost use Rattle.world_model.specs.LaneSteps.{is_lawful};
 ghost use Rattle.world_model.specs.Histories.{state_of, after, Legal};
 ghost use Rattle.world_model.specs.Calls.{Appends};
 ghost use Rattle.world_model.specs.Hooks.{SameTest, AreCalled, MeetTest};
-ghost use Rattle.world_model.specs.Engines.{IsInFrame, no_slice, KeepsHeld, KeepsOthers, act_of_create, act_of_dissolve, name_of};
+ghost use Rattle.world_model.specs.Engines.{IsInFrame, IsOfLane, no_slice, KeepsHeld, KeepsOthers, act_of_create, act_of_dissolve, name_of};
 
 use crate::hooks::Hooks;
 use crate::kind::Kind;
@@ -35,10 +35,14 @@ pub trait Engine<S: Shape> {
     ghost holds: { Self → ℕ → Ref → Type 0 };
 
     /// Does nothing: its contract tells the caller what is true of every engine at any moment. The
-    /// history is legal, and no slice is open, since each call closes the slice that it opens.
+    /// history is legal, and no slice is open, since each call closes the slice that it opens. What a
+    /// lane holds has an index of the range of the lane that made it, and different objects have
+    /// different indexes.
     fn lawful(&self)
         ensures legal { Legal S.sizes (history self.now) }
-        ensures closed { IsTrue (no_slice (after (history self.now))) };
+        ensures closed { IsTrue (no_slice (after (history self.now))) }
+        ensures range { (lane : ℕ) (r : Ref) → holds self.now lane r → IsOfLane S.sizes r.name.lane r.index }
+        ensures apart { (k l : ℕ) (q r : Ref) → holds self.now k q → holds self.now l r → q.index ≡ r.index → q.name ≡ r.name };
 
     /// Opens the frame of a lane, and tells the phase that it found. While a frame is open, no
     /// collection begins or commits.

@@ -1,6 +1,8 @@
-use Rattle.std.proofs.Common.{◌≡◌, refl, sym, ◌∙◌, arith, ◌∷◌, [], length}
+use Rattle.std.proofs.Common.{◌≡◌, ℕ, refl, sym, ◌∙◌, arith, ◌∷◌, [], length}
+use Rattle.heap_plain.specs.Types.{Phase, Commit}
 use Rattle.heap_plain.specs.Types.act
 use Rattle.heap_plain.specs.Types.commit
+use Rattle.heap_plain.specs.Notes.{MayEnd}
 use Rattle.heap_plain.proofs.CommitSteps.{refuses_commit, commits_alone, refuses_commit_held, done_facts, commits, commits_held}
 use Rattle.heap_plain.proofs.heap.PlainHeapEngine.commit.Goals as goal
 
@@ -51,3 +53,20 @@ returns-clause-entries g c =
 
 pub returns-clause-held : goal.returns-clause-held
 returns-clause-held g c = rw (← c.self.view_is, c.commit_gc.ensures) (refuses_commit_held _ _ _ (sym c.is_done.ensures ∙ c.if-is_done.false))
+
+-- an answer that ends nothing names word 0 and one bit
+one_bit : (phase : Phase) (grey opened : ℕ) (reply : Commit) → MayEnd phase grey opened reply → (word bits : ℕ) → reply ≡ commit.Unfinished word bits → (word ≡ 0) × (bits ≡ 1)
+one_bit phase grey opened commit.Done m word bits e = absurd cc
+one_bit phase grey opened (commit.NotMarking at) m word bits e = absurd cc
+one_bit phase grey opened (commit.Unfinished w b) m word bits e =
+    let same_word : w ≡ word = cc in
+    let same_bits : b ≡ bits = cc in
+    (sym same_word ∙ m.2, sym same_bits ∙ m.3)
+one_bit phase grey opened commit.Stores m word bits e = absurd m
+one_bit phase grey opened (commit.Frames n) m word bits e = absurd cc
+
+pub returns-clause-word : goal.returns-clause-word
+returns-clause-word g c word bits e = one_bit _ _ _ _ c.may_end-reply.ensures word bits e
+
+pub returns-then-is_done-clause-word : goal.returns-then-is_done-clause-word
+returns-then-is_done-clause-word g c word bits e = absurd (let ended : commit.Done ≡ commit.Unfinished word bits = e in cc)
