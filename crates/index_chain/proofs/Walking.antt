@@ -264,3 +264,40 @@ pub place_told : (words : Words) (is : List ℕ) (k i : ℕ) → AllByRecursion 
 place_told words [] k i h at = absurd cc
 place_told words (j ∷ is) zero i h at = let same : j ≡ i = cc in subst (IsTold words) same h.0
 place_told words (j ∷ is) (suc k) i h at = place_told words is k i h.1 at
+
+-- ---- without the last item
+
+no_walk : (words : Words) (n : ℕ) → walk words n None ≡ []
+unfolding walk
+no_walk words zero = refl
+no_walk words (suc n) = refl
+
+-- a walk that ends at its last item has the same items
+ended_walk : (words : Words) (n : ℕ) (at : Option ℕ) → AreDistinct (walk words n at) → walk (with_end words (walk words n at) None) n at ≡ walk words n at
+unfolding walk with_end AreDistinct
+ended_walk words zero at d = refl
+ended_walk words (suc n) None d = refl
+ended_walk words (suc n) (Some i) d = go (walk words n (next_of words i)) refl (ended_walk words n (next_of words i) d.1)
+  where
+    go : (rest : List ℕ) → walk words n (next_of words i) ≡ rest → walk (with_end words (walk words n (next_of words i)) None) n (next_of words i) ≡ walk words n (next_of words i) → walk (with_end words (i ∷ rest) None) (suc n) (Some i) ≡ i ∷ rest
+    go [] e on = ap (λ is. i ∷ is) (ap (walk (with_next words i None) n) (next_written words i None) ∙ no_walk (with_next words i None) n)
+    go (j ∷ more) e on =
+        let out : has (j ∷ more) i ≡ false = ap (λ is. has is i) (sym e) ∙ d.0 in
+        ap (λ is. i ∷ is) (ap (walk (with_end words (j ∷ more) None) n) (next_end words (j ∷ more) None i out) ∙ subst (λ is. walk (with_end words is None) n (next_of words i) ≡ is) e on)
+
+pub ended_stays : (words : Words) (chain : Chain) → IsChain words chain → Stays words (with_end words (items words chain) None) chain
+ended_stays words chain one =
+    let same = ended_walk words chain.count chain.first one.distinct in
+    record {
+      same = same;
+      whole = record {
+        whole = ap length same ∙ one.whole;
+        told = subst (AllByRecursion (IsTold (with_end words (items words chain) None))) (sym same) (told_end words (items words chain) None (items words chain) one.told);
+        distinct = subst AreDistinct (sym same) one.distinct;
+      };
+    }
+
+pub end_none : (words : Words) (is : List ℕ) (to : Option ℕ) → length is ≡ 0 → with_end words is to ≡ words
+unfolding with_end
+end_none words [] to none = refl
+end_none words (i ∷ is) to none = absurd cc

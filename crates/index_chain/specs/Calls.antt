@@ -1,4 +1,4 @@
--- What the calls on chains leave of the words.
+-- What the calls on chains write, and what they leave of the words.
 use Rattle.std.specs.Prelude.{ℕ, List, [], ◌∷◌, Option}
 use Rattle.index_chain.specs.Walks.{Words, with_next}
 
@@ -12,3 +12,13 @@ with_end words (i ∷ j ∷ is) to = with_end words (j ∷ is) to
 abbrev pub joined : Words → List ℕ → List ℕ → Option ℕ → Words
 joined words front [] to = words
 joined words front (j ∷ js) to = with_end words front to
+
+-- the writes of these changes: one, to the last item, or none without it
+unfoldable pub end_write : List ℕ → Option ℕ → List (ℕ × Option ℕ)
+end_write [] to = []
+end_write (i ∷ []) to = (i, to) ∷ []
+end_write (i ∷ j ∷ is) to = end_write (j ∷ is) to
+
+abbrev pub join_write : List ℕ → List ℕ → Option ℕ → List (ℕ × Option ℕ)
+join_write front [] to = []
+join_write front (j ∷ js) to = end_write front to

@@ -1,5 +1,5 @@
 -- The items that one meets from an item on, through the words of the items.
-use Rattle.std.specs.Prelude.{◌≡◌, ℕ, zero, suc, ◌==◌, Bool, true, false, List, [], ◌∷◌, length, Option, Some, None, option_and_then, IsTrue, if◌then◌else◌}
+use Rattle.std.specs.Prelude.{◌≡◌, ℕ, zero, suc, ◌==◌, Bool, true, false, List, [], ◌∷◌, length, fold, Option, Some, None, option_and_then, IsTrue, if◌then◌else◌}
 use Rattle.std.specs.Option.{is_some}
 use Rattle.std.specs.List.{AllByRecursion, list_any}
 use Rattle.index_chain.specs.declared.chain.Chain.{Chain}
@@ -19,6 +19,14 @@ next_of words i = option_and_then (λ to. to) (words i)
 -- one item has another next item, or none
 abbrev pub with_next : Words → ℕ → Option ℕ → Words
 with_next words i to j = if j == i then Some to else words j
+
+-- a write gives an item another next item, or none
+abbrev pub after_write : Words → ℕ × Option ℕ → Words
+after_write words w = with_next words w.0 w.1
+
+-- the words after these writes, one after the other
+abbrev pub written : Words → List (ℕ × Option ℕ) → Words
+written words ws = fold after_write words ws
 
 -- so many items from one on, or fewer where one of them has no next item
 unfoldable pub walk : Words → ℕ → Option ℕ → List ℕ

@@ -13,7 +13,7 @@ mod tests;
 mod vector;
 mod words;
 
-pub use calls::{append, at, push_front, take_front};
+pub use calls::{append, at, drop_last, push_front, take_front};
 pub use chain::Chain;
 pub use laws::{outside_stays, parts_stay};
 pub use vector::VecLinks;

@@ -2,7 +2,7 @@
 ghost use Rattle.std.specs.Prelude.{◌≡◌, slice_get};
 ghost use Rattle.index_chain.specs.Walks.{items, IsChain};
 
-use crate::calls::{append, at, push_front, take_front};
+use crate::calls::{append, at, drop_last, push_front, take_front};
 use crate::chain::Chain;
 use crate::laws::{outside_stays, parts_stay};
 use crate::vector::VecLinks;
@@ -118,6 +118,25 @@ fn nothing_and_all_is_taken(rt: HostRuntime) {
     assert_eq!(rt; all, chain);
     assert_eq!(rt; none.count, 0);
     assert!(rt; has_items(&mut links, chain, &[5, 0]));
+}
+
+#[test]
+fn the_last_items_are_dropped(rt: HostRuntime) {
+    let mut links = VecLinks::new(rt.alloc(), 5000).expect(&rt, "memory");
+    let chain = push_front(&mut links, Chain::new(), 4999);
+    let chain = push_front(&mut links, chain, 0);
+    let (chain, last) = drop_last(&mut links, chain);
+    assert_eq!(rt; last, 4999);
+    assert_eq!(rt;
+        chain,
+        Chain {
+            first: Some(0),
+            count: 1
+        }
+    );
+    let (none, last) = drop_last(&mut links, chain);
+    assert_eq!(rt; last, 0);
+    assert_eq!(rt; none.count, 0);
 }
 
 #[test]

@@ -1,5 +1,8 @@
 //! Words in a vector.
-ghost use Rattle.std.specs.Prelude.{◌≡◌, slice_get, replicate, length, None, IfOk};
+ghost use Rattle.std.specs.Prelude.{◌≡◌, slice_get, replicate, length, None, IfOk, refl};
+ghost use Rattle.std.proofs.Common.{ap, sym, ◌∙◌};
+ghost use Rattle.std.proofs.lemmas.List.Sums.{fold-append};
+ghost use Rattle.index_chain.specs.Walks.{after_write, written};
 
 use crate::words::Links;
 use std::alloc::{AllocError, Global};
@@ -22,6 +25,12 @@ impl VecLinks {
 
 impl Links for VecLinks {
     ghost words = { λ links. slice_get links.next.items };
+
+    ghost writes = { λ old new ws. slice_get new.next.items ≡ written (slice_get old.next.items) ws };
+
+    ghost stays = { λ links. refl };
+
+    ghost follows = { λ a b c ws vs h k. k ∙ (ap (λ words. written words vs) h ∙ sym (fold-append after_write (slice_get a.next.items) ws vs)) };
 
     fn next(&mut self, i: u32) -> Option<u32> {
         self.next[i as usize]

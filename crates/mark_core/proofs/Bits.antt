@@ -1,6 +1,7 @@
 -- The words of bits.
 use Rattle.std.proofs.Common.{◌≡◌, ℕ, ◌+◌, ◌*◌, ◌<◌, ◌^◌, refl, ap, ◌∙◌, zero, suc, arith, Bool, true, false}
-use Rattle.mark_core.specs.Words.{bit, bits_word}
+use Rattle.word_layout.specs.Values.{bit}
+use Rattle.mark_core.specs.Words.{bits_word}
 
 pub bits-suc : (f : ℕ → Bool) (n : ℕ) → bits_word f (suc n) ≡ bits_word f n + bit (f n) * 2 ^ n
 unfolding bits_word

@@ -36,6 +36,7 @@ found_before found (Some u) v h = go (same_or_not v u)
 pub root_loaded : (z : Sizes) (c : Core) (p : ℕ) → c.job ≡ Roots p → Lawful z c → Lawful z (record c { job = Roots (p + 1); own_found = finds_root c.own_found (c.root p) })
 root_loaded z c p at h = record {
   beyond = h.beyond;
+  scans_own = h.scans_own;
   open_in = h.open_in;
   lanes = h.lanes;
   markers = h.markers;
@@ -75,6 +76,7 @@ root_loaded z c p at h = record {
 pub root_settled : (z : Sizes) (c : Core) (u p : ℕ) → c.job ≡ Roots p → c.marked u ≡ true → Lawful z c → Lawful z (record c { own_found = set_at c.own_found u false })
 root_settled z c u p at on h = record {
   beyond = h.beyond;
+  scans_own = h.scans_own;
   open_in = h.open_in;
   lanes = h.lanes;
   markers = h.markers;
@@ -150,6 +152,7 @@ rested z c h = go (roots_done z c.job c.own_hand c.own_found) refl
         let done = done_work z c.job c.own_hand c.own_found far e in
         record {
           beyond = h.beyond;
+          scans_own = h.scans_own;
           open_in = h.open_in;
           lanes = h.lanes;
           markers = h.markers;
@@ -202,6 +205,7 @@ look_begun z c at marking h = go (nat_lt 0 (words z)) refl
     from r w none_before =
         record {
           beyond = h.beyond;
+          scans_own = h.scans_own;
           open_in = h.open_in;
           lanes = h.lanes;
           markers = h.markers;
@@ -237,6 +241,7 @@ look_stopped z c r w at h =
     let work : (c.phase ≡ Marking) × (c.own_hand ≡ None) × FoundNone c.own_found = subst (λ (j : Job). AtWork c.phase j c.own_hand c.own_found) at h.work in
     record {
       beyond = h.beyond;
+      scans_own = h.scans_own;
       open_in = h.open_in;
       lanes = h.lanes;
       markers = h.markers;
@@ -281,6 +286,7 @@ look_goes_on z c r w at zero_is h = go (nat_lt (w + 1) (words z)) refl
     on r2 w2 split =
         record {
           beyond = h.beyond;
+          scans_own = h.scans_own;
           open_in = h.open_in;
           lanes = h.lanes;
           markers = h.markers;

@@ -1,15 +1,12 @@
 -- When a commit exchange succeeds nothing is grey, and what is reached is marked.
 use Rattle.std.proofs.Common.{◌≡◌, ℕ, subst, true, false, List, [], ◌∷◌, Some, None}
 use Rattle.mark_core.specs.Machine.{Marking, Nowhere, Job, Sizes, Core}
-use Rattle.mark_core.specs.Steps.{run}
 use Rattle.mark_core.specs.Lawful.{FoundNone, Lawful, AtWork, Unloaded}
-use Rattle.mark_core.specs.Start.{start}
 use Rattle.mark_core.specs.Reach.{graph, Refers, Walk}
 use Rattle.mark_core.specs.Laws.{Commits, CommitIsRight, CommitsAreRight}
 use Rattle.mark_core.proofs.Tools.{live_alive, live_marking}
 use Rattle.mark_core.proofs.Collects.{roots_marked}
 use Rattle.mark_core.proofs.Phases.{nothing_grey}
-use Rattle.mark_core.proofs.Starts.{stays_lawful}
 
 -- marked, and not doomed
 abbrev IsSafe : Core → ℕ → Type 0
@@ -20,7 +17,7 @@ walk_safe : (c : Core) → ((u v : ℕ) → IsSafe c u → Refers (graph c) u v 
 walk_safe c on u [] v safe walk = subst (IsSafe c) walk safe
 walk_safe c on u (next ∷ rest) v safe walk = walk_safe c on next rest v (on u next safe walk.0) walk.1
 
-pub commit_right : (z : Sizes) (c : Core) → Commits z c → Lawful z c → CommitIsRight c
+pub commit_right : CommitsAreRight
 commit_right z c commits h = record { none_grey = nowhere; reached = λ u is. walk_safe c on is.root is.rest u (root_safe is.place is.root is.named) is.walk }
   where
     work : (c.phase ≡ Marking) × (c.own_hand ≡ None) × (FoundNone c.own_found)
@@ -34,6 +31,3 @@ commit_right z c commits h = record { none_grey = nowhere; reached = λ u is. wa
 
     root_safe : (p u : ℕ) → c.root p ≡ Some u → IsSafe c u
     root_safe p u e = (roots_marked z c work.0 (λ q un. subst (λ (j : Job). Unloaded j q) commits.may un) work.2 h p u e, live_alive c.phase c.doomed c.marked u (h.root_set p u e).1)
-
-pub commits_are_right : CommitsAreRight
-commits_are_right z cells events may commits = commit_right z (run z (start z cells) events) commits (stays_lawful z cells events may)

@@ -15,7 +15,8 @@ pub mod Commits
 pub mod Once
 pub mod Makes
 pub mod Licences
-pub mod Rewires
+pub mod Clears
+pub mod Loosens
 pub mod Numbers
 pub mod Ranges
 pub mod Cursors

@@ -5,6 +5,7 @@ use Rattle.mark_core.specs.Machine.{Phase, Idle, Marking, Gathering, Nowhere, Si
 use Rattle.mark_core.specs.Steps.{is_live}
 use Rattle.mark_core.specs.Lawful.{Lawful, Unloaded}
 use Rattle.mark_core.specs.Makes.{makes, empties}
+use Rattle.mark_core.specs.Laws.{MakingIsLawful}
 use Rattle.mark_core.proofs.Tools.{at_set, at_set_in, set_here, set_there, apart, grows_one, live_alive, live_marked, same_or_not}
 
 -- a unit is in the world by its own head
@@ -13,14 +14,14 @@ live_same Marking d e m n u s t h = subst (λ (b : Bool). not b ≡ true) s h
 live_same Idle d e m n u s t h = subst (λ (b : Bool). (not (e u) && b) ≡ true) t (subst (λ (b : Bool). (not b && m u) ≡ true) s h)
 live_same Gathering d e m n u s t h = subst (λ (b : Bool). (not (e u) && b) ≡ true) t (subst (λ (b : Bool). (not b && m u) ≡ true) s h)
 
-gone : (ns : List ℕ) (cell : ℕ → Option ℕ) (k : ℕ) → has ns k ≡ true → empties ns cell k ≡ None
+pub gone : (ns : List ℕ) (cell : ℕ → Option ℕ) (k : ℕ) → has ns k ≡ true → empties ns cell k ≡ None
 gone ns cell k e = go (has ns k) e
   where
     go : (b : Bool) → b ≡ true → cond b None (cell k) ≡ None
     go true e = refl
     go false e = absurd cc
 
-still : (ns : List ℕ) (cell : ℕ → Option ℕ) (k t : ℕ) → empties ns cell k ≡ Some t → cell k ≡ Some t
+pub still : (ns : List ℕ) (cell : ℕ → Option ℕ) (k t : ℕ) → empties ns cell k ≡ Some t → cell k ≡ Some t
 still ns cell k t = go (has ns k)
   where
     go : (b : Bool) → cond b None (cell k) ≡ Some t → cell k ≡ Some t
@@ -30,6 +31,9 @@ still ns cell k t = go (has ns k)
 pub made_lawful : (z : Sizes) (c : Core) (l u : ℕ) (n : List ℕ) → c.lane_open l ≡ true → u < z.units → c.doomed u ≡ true → Lawful z c → Lawful z (makes c l u n)
 made_lawful z c l u n on lt dead h = record {
   beyond = λ v far. at_set (λ b. b ≡ true) c.doomed u false v (λ e. absurd (omega arith)) (λ o. h.beyond v far);
+  scans_own = λ m s k at own.
+      let alive : s.unit ≡ u → ⊥ = λ e. absurd (let under = h.standing.under m s at in let none = h.grey.doomed_is u dead in let same : c.place s.unit ≡ c.place u = ap c.place e in cc) in
+      subst (λ (xs : List ℕ). has xs k ≡ true) (sym (set_there c.cells u n s.unit alive)) (h.scans_own m s k at own);
   open_in = h.open_in;
   lanes = h.lanes;
   markers = h.markers;
@@ -87,3 +91,19 @@ made_lawful z c l u n on lt dead h = record {
     black v k t m alive marked nowhere own e (inl same) = absurd (let new : has n k ≡ true = subst (λ (xs : List ℕ). has xs k ≡ true) (set_here c.cells u n v same) own in let none = gone n c.cell k new in cc)
     black v k t m alive marked nowhere own e (inr o) =
         grows_one c.marked u t ((h.black m).black v k t (sym (set_there c.doomed u false v o) ∙ alive) (sym (set_there c.marked u true v o) ∙ marked) nowhere (own_before v k t own e) (still n c.cell k t e))
+
+-- all that making a unit does
+pub made : MakingIsLawful
+made z c l u n on lt dead h = record {
+  lawful = made_lawful z c l u n on lt dead h;
+  no_root = λ p e. not_live (h.root_set p u e).1;
+  no_cell = λ v k live own e. not_live (h.cells v k u live own e);
+  empty = λ k own. gone n c.cell k own;
+  others = λ fresh v k alive own. (
+    ap (λ (b : Bool). cond b None (c.cell k)) (fresh v k alive own),
+    subst (λ (xs : List ℕ). has xs k ≡ true) (sym (set_there c.cells u n v (λ e. absurd (let same : c.doomed v ≡ c.doomed u = ap c.doomed e in cc)))) own,
+  );
+}
+  where
+    not_live : is_live c.phase c.doomed c.marked u ≡ true → ⊥
+    not_live live = absurd (let alive = live_alive c.phase c.doomed c.marked u live in cc)

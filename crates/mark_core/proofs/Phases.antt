@@ -35,6 +35,7 @@ begun z c true e at idle h =
     let work : (c.own_hand ≡ None) × (FoundNone c.own_found) = subst (λ (j : Job). AtWork c.phase j c.own_hand c.own_found) at h.work in
     record {
       beyond = h.beyond;
+      scans_own = h.scans_own;
       open_in = h.open_in;
       lanes = h.lanes;
       markers = h.markers;
@@ -99,6 +100,7 @@ committed z c true e at h =
     let marked = roots_marked z c work.0 (λ q un. subst (λ (j : Job). Unloaded j q) at un) work.2 h in
     record {
       beyond = h.beyond;
+      scans_own = h.scans_own;
       open_in = h.open_in;
       lanes = h.lanes;
       markers = h.markers;
@@ -130,6 +132,7 @@ dooms z c u gathering white h =
     let quiet = h.quiet (λ m. absurd cc) in
     record {
       beyond = λ v far. at_set (λ b. b ≡ true) c.doomed u true v (λ e. refl) (λ n. h.beyond v far);
+      scans_own = h.scans_own;
       open_in = h.open_in;
       lanes = h.lanes;
       markers = h.markers;
@@ -171,6 +174,7 @@ no_job phase (Look r w) hand found out h = absurd (out h.0)
 pub settles : (z : Sizes) (c : Core) → c.phase ≡ Gathering → ((u : ℕ) → c.marked u ≡ false → c.doomed u ≡ true) → Lawful z c → Lawful z (record c { phase = Idle })
 settles z c gathering all h = record {
   beyond = h.beyond;
+  scans_own = h.scans_own;
   open_in = h.open_in;
   lanes = h.lanes;
   markers = h.markers;

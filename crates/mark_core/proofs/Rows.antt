@@ -6,7 +6,7 @@ use Rattle.mark_core.specs.Steps.{takes}
 use Rattle.mark_core.specs.Lawful.{Lawful, AreGrey, AreBlack, AtWork, LookedAt}
 use Rattle.mark_core.proofs.Tools.{at_set, at_takes, set_here, apart, some_same}
 use Rattle.mark_core.proofs.Seats.{looked_lane_owes, looked_marker_owes}
-use Rattle.mark_core.proofs.Shades.{looked_fewer, on_stack_of}
+use Rattle.mark_core.proofs.Shades.{looked_fewer, in_hand_of, on_stack_of}
 
 -- the same units are grey
 pub record SameGrey (place next : ℕ → Place) : Type 0 where
@@ -39,6 +39,7 @@ lane_adds z c l r u at le h =
     let has_u = h.standing.hands u l at in
     record {
       beyond = h.beyond;
+      scans_own = h.scans_own;
       open_in = h.open_in;
       lanes = record {
         hand_is = λ k off. at_set (λ x. x ≡ None) c.hand l None k (λ e. refl) (λ n. h.lanes.hand_is k off);
@@ -51,6 +52,9 @@ lane_adds z c l r u at le h =
         rows = λ v k. at_set (λ x. x ≡ InRow k → k ≤ z.markers) c.place u (InRow r) v (λ e here. row_range r k z.markers le here) (λ n. h.standing.rows v k);
         hands = λ v k. at_set (λ x. x ≡ InHand k → set_at c.hand l None k ≡ Some v) c.place u (InRow r) v (λ e wrong. absurd cc) (λ n there. at_set (λ x. x ≡ Some v) c.hand l None k (λ e. absurd (n (some_same v u (sym (h.standing.hands v k there) ∙ (ap c.hand e ∙ has_u))))) (λ other. h.standing.hands v k there));
         own = λ v. at_set (λ x. x ≡ InCollector → c.own_hand ≡ Some v) c.place u (InRow r) v (λ e wrong. absurd cc) (λ n. h.standing.own v);
+        in_hand = λ k v. at_set (λ x. x ≡ Some v → set_at c.place u (InRow r) v ≡ InHand k) c.hand l None k (λ e wrong. absurd cc)
+            (λ n other. at_set (λ x. x ≡ InHand k) c.place u (InRow r) v (λ e. absurd (n (in_hand_of l k (sym at ∙ (ap c.place (sym e) ∙ h.standing.in_hand k v other))))) (λ o. h.standing.in_hand k v other));
+        in_own = λ v other. at_set (λ x. x ≡ InCollector) c.place u (InRow r) v (λ e. absurd (let was = h.standing.in_own v other in let there : c.place v ≡ c.place u = ap c.place e in cc)) (λ o. h.standing.in_own v other);
         scans = λ v k. at_set (λ x. x ≡ UnderScan k → (s : Scan) × (c.scan k ≡ Some s) × (s.unit ≡ v)) c.place u (InRow r) v (λ e wrong. absurd cc) (λ n. h.standing.scans v k);
         under = λ k s e. at_set (λ x. x ≡ UnderScan k) c.place u (InRow r) s.unit (λ same_unit. absurd (let was = h.standing.under k s e in let there : c.place s.unit ≡ c.place u = ap c.place same_unit in cc)) (λ n. h.standing.under k s e);
       };
@@ -73,6 +77,7 @@ marker_adds z c m r u at le h =
     let same = moved c.place u (InRow r) (λ e. absurd cc) (λ e. absurd cc) in
     record {
       beyond = h.beyond;
+      scans_own = h.scans_own;
       open_in = h.open_in;
       lanes = h.lanes;
       markers = record {
@@ -85,6 +90,8 @@ marker_adds z c m r u at le h =
         rows = λ v k. at_set (λ x. x ≡ InRow k → k ≤ z.markers) c.place u (InRow r) v (λ e here. row_range r k z.markers le here) (λ n. h.standing.rows v k);
         hands = λ v k. at_set (λ x. x ≡ InHand k → c.hand k ≡ Some v) c.place u (InRow r) v (λ e wrong. absurd cc) (λ n. h.standing.hands v k);
         own = λ v. at_set (λ x. x ≡ InCollector → c.own_hand ≡ Some v) c.place u (InRow r) v (λ e wrong. absurd cc) (λ n. h.standing.own v);
+        in_hand = λ k v other. at_set (λ x. x ≡ InHand k) c.place u (InRow r) v (λ e. absurd (let was = h.standing.in_hand k v other in let there : c.place v ≡ c.place u = ap c.place e in cc)) (λ o. h.standing.in_hand k v other);
+        in_own = λ v other. at_set (λ x. x ≡ InCollector) c.place u (InRow r) v (λ e. absurd (let was = h.standing.in_own v other in let there : c.place v ≡ c.place u = ap c.place e in cc)) (λ o. h.standing.in_own v other);
         scans = λ v k. at_set (λ x. x ≡ UnderScan k → (s : Scan) × (c.scan k ≡ Some s) × (s.unit ≡ v)) c.place u (InRow r) v (λ e wrong. absurd cc) (λ n. h.standing.scans v k);
         under = λ k s e. at_set (λ x. x ≡ UnderScan k) c.place u (InRow r) s.unit (λ same_unit. absurd (let was = h.standing.under k s e in let there : c.place s.unit ≡ c.place u = ap c.place same_unit in cc)) (λ n. h.standing.under k s e);
       };
@@ -118,6 +125,7 @@ collector_adds z c r u at le h =
     let has_u = h.standing.own u at in
     record {
       beyond = h.beyond;
+      scans_own = h.scans_own;
       open_in = h.open_in;
       lanes = h.lanes;
       markers = h.markers;
@@ -127,6 +135,8 @@ collector_adds z c r u at le h =
         rows = λ v k. at_set (λ x. x ≡ InRow k → k ≤ z.markers) c.place u (InRow r) v (λ e here. row_range r k z.markers le here) (λ n. h.standing.rows v k);
         hands = λ v k. at_set (λ x. x ≡ InHand k → c.hand k ≡ Some v) c.place u (InRow r) v (λ e wrong. absurd cc) (λ n. h.standing.hands v k);
         own = λ v. at_set (λ x. x ≡ InCollector → None ≡ Some v) c.place u (InRow r) v (λ e wrong. absurd cc) (λ n there. absurd (n (some_same v u (sym (h.standing.own v there) ∙ has_u))));
+        in_hand = λ k v other. at_set (λ x. x ≡ InHand k) c.place u (InRow r) v (λ e. absurd (let was = h.standing.in_hand k v other in let there : c.place v ≡ c.place u = ap c.place e in cc)) (λ o. h.standing.in_hand k v other);
+        in_own = λ v wrong. absurd cc;
         scans = λ v k. at_set (λ x. x ≡ UnderScan k → (s : Scan) × (c.scan k ≡ Some s) × (s.unit ≡ v)) c.place u (InRow r) v (λ e wrong. absurd cc) (λ n. h.standing.scans v k);
         under = λ k s e. at_set (λ x. x ≡ UnderScan k) c.place u (InRow r) s.unit (λ same_unit. absurd (let was = h.standing.under k s e in let there : c.place s.unit ≡ c.place u = ap c.place same_unit in cc)) (λ n. h.standing.under k s e);
       };
@@ -154,6 +164,7 @@ row_taken z c m r w opened h =
     let same = taken_grey m r w c.place in
     record {
       beyond = h.beyond;
+      scans_own = h.scans_own;
       open_in = h.open_in;
       lanes = h.lanes;
       markers = h.markers;
@@ -163,6 +174,8 @@ row_taken z c m r w opened h =
         rows = λ v k. at_takes (λ x. x ≡ InRow k → k ≤ z.markers) m r w c.place v (λ at wrong. absurd cc) (h.standing.rows v k);
         hands = λ v k. at_takes (λ x. x ≡ InHand k → c.hand k ≡ Some v) m r w c.place v (λ at wrong. absurd cc) (h.standing.hands v k);
         own = λ v. at_takes (λ x. x ≡ InCollector → c.own_hand ≡ Some v) m r w c.place v (λ at wrong. absurd cc) (h.standing.own v);
+        in_hand = λ k v other. at_takes (λ x. x ≡ InHand k) m r w c.place v (λ at. absurd (let was = h.standing.in_hand k v other in cc)) (h.standing.in_hand k v other);
+        in_own = λ v other. at_takes (λ x. x ≡ InCollector) m r w c.place v (λ at. absurd (let was = h.standing.in_own v other in cc)) (h.standing.in_own v other);
         scans = λ v k. at_takes (λ x. x ≡ UnderScan k → (s : Scan) × (c.scan k ≡ Some s) × (s.unit ≡ v)) m r w c.place v (λ at wrong. absurd cc) (h.standing.scans v k);
         under = λ k s e. at_takes (λ x. x ≡ UnderScan k) m r w c.place s.unit (λ at. absurd (let was = h.standing.under k s e in cc)) (h.standing.under k s e);
       };

@@ -2,10 +2,10 @@
 use Rattle.std.proofs.Common.{◌≡◌, ℕ, ◌≤◌, ◌==◌, ◌||◌, refl, sym, subst, ap, ◌∙◌, inl, inr, Bool, true, false, List, [], ◌∷◌, ◌⊎◌, Option, Some, None}
 use Rattle.std.proofs.lemmas.Bool.{eqb-true}
 use Rattle.mark_core.specs.Changes.{set_at, has}
-use Rattle.mark_core.specs.Machine.{Marking, Nowhere, InRow, OnStack, UnderScan, InHand, InCollector, Scan, Sizes, Core}
+use Rattle.mark_core.specs.Machine.{Marking, Place, Nowhere, InRow, OnStack, UnderScan, InHand, InCollector, Scan, Sizes, Core}
 use Rattle.mark_core.specs.Steps.{is_live, behind, leaves, goes_on, moves_on, finds, starts}
 use Rattle.mark_core.specs.Lawful.{Lawful}
-use Rattle.mark_core.proofs.Tools.{at_set, set_here, set_there, same_or_not, not_false, true_or_false, some_same, live_marking, apart}
+use Rattle.mark_core.proofs.Tools.{at_set, set_here, set_there, same_or_not, not_false, or_right, true_or_false, some_same, live_marking, apart}
 use Rattle.mark_core.proofs.Shades.{looked_fewer}
 use Rattle.mark_core.proofs.Rows.{moved, grey_regrouped}
 
@@ -18,11 +18,18 @@ pub record Leaves (scan next : ℕ → Option Scan) (u : ℕ) : Type 0 where
   pub stays : (m : ℕ) (s : Scan) → scan m ≡ Some s → (s.unit ≡ u → ⊥) → next m ≡ Some s
   pub none : (m : ℕ) → scan m ≡ None → next m ≡ None
 
+-- a grey unit that is in no hand
+pub record InScans (place : ℕ → Place) (u : ℕ) : Type 0 where
+  pub grey_u : place u ≡ Nowhere → ⊥
+  pub hand : (l : ℕ) → place u ≡ InHand l → ⊥
+  pub own : place u ≡ InCollector → ⊥
+
 -- A grey unit all of whose cells point to marked ones is scanned
-pub left : (z : Sizes) (c : Core) (u : ℕ) (scan : ℕ → Option Scan) → c.phase ≡ Marking → (c.place u ≡ Nowhere → ⊥) → ((k v : ℕ) → has (c.cells u) k ≡ true → c.cell k ≡ Some v → c.marked v ≡ true) → Leaves c.scan scan u
+pub left : (z : Sizes) (c : Core) (u : ℕ) (scan : ℕ → Option Scan) → c.phase ≡ Marking → InScans c.place u → ((k v : ℕ) → has (c.cells u) k ≡ true → c.cell k ≡ Some v → c.marked v ≡ true) → Leaves c.scan scan u
     → Lawful z c → Lawful z (record (leaves c u) { scan = scan })
-left z c u scan marking grey_u settled other h = record {
+left z c u scan marking at settled other h = record {
   beyond = h.beyond;
+  scans_own = λ m s k e. h.scans_own m s k (other.was m s e).0;
   open_in = h.open_in;
   lanes = h.lanes;
   markers = record { scan_is = λ m off. other.none m (h.markers.scan_is m off); owes_is = h.markers.owes_is };
@@ -32,6 +39,8 @@ left z c u scan marking grey_u settled other h = record {
     rows = λ v r. at_set (λ x. x ≡ InRow r → r ≤ z.markers) c.place u Nowhere v (λ e wrong. absurd cc) (λ n. h.standing.rows v r);
     hands = λ v k. at_set (λ x. x ≡ InHand k → c.hand k ≡ Some v) c.place u Nowhere v (λ e wrong. absurd cc) (λ n. h.standing.hands v k);
     own = λ v. at_set (λ x. x ≡ InCollector → c.own_hand ≡ Some v) c.place u Nowhere v (λ e wrong. absurd cc) (λ n. h.standing.own v);
+    in_hand = λ k v hand. at_set (λ x. x ≡ InHand k) c.place u Nowhere v (λ e. absurd (at.hand k (ap c.place (sym e) ∙ h.standing.in_hand k v hand))) (λ n. h.standing.in_hand k v hand);
+    in_own = λ v hand. at_set (λ x. x ≡ InCollector) c.place u Nowhere v (λ e. absurd (at.own (ap c.place (sym e) ∙ h.standing.in_own v hand))) (λ n. h.standing.in_own v hand);
     scans = λ v k. at_set (λ x. x ≡ UnderScan k → (s : Scan) × (scan k ≡ Some s) × (s.unit ≡ v)) c.place u Nowhere v (λ e wrong. absurd cc) (λ n at. let was = h.standing.scans v k at in (was.0, other.stays k was.0 was.1 (λ e. n (sym was.2 ∙ e)), was.2));
     under = λ k s e. let was = other.was k s e in at_set (λ x. x ≡ UnderScan k) c.place u Nowhere s.unit (λ same. absurd (was.1 same)) (λ n. h.standing.under k s was.0);
   };
@@ -39,7 +48,7 @@ left z c u scan marking grey_u settled other h = record {
     marked_is = λ v off. at_set (λ x. x ≡ Nowhere) c.place u Nowhere v (λ e. refl) (λ n. h.grey.marked_is v off);
     doomed_is = λ v off. at_set (λ x. x ≡ Nowhere) c.place u Nowhere v (λ e. refl) (λ n. h.grey.doomed_is v off);
     scanned_is = λ v. at_set (λ x. x ≡ true → (set_at c.place u Nowhere v ≡ Nowhere) × (c.marked v ≡ true)) c.scanned u true v
-        (λ e done. (set_here c.place u Nowhere v e, ap c.marked e ∙ not_false (c.marked u) (λ off. grey_u (h.grey.marked_is u off))))
+        (λ e done. (set_here c.place u Nowhere v e, ap c.marked e ∙ not_false (c.marked u) (λ off. at.grey_u (h.grey.marked_is u off))))
         (λ n done. let was = h.grey.scanned_is v done in (set_there c.place u Nowhere v n ∙ was.0, was.1));
   };
   black = λ m. record {
@@ -65,9 +74,13 @@ pub rescanned : (z : Sizes) (c : Core) (m : ℕ) (s t : Scan) → c.scan m ≡ S
     → ((i v : ℕ) → has (c.cells t.unit) i ≡ true → has t.left i ≡ false → c.cell i ≡ Some v → c.marked v ≡ true)
     → ((i : ℕ) (rest : List ℕ) (f v : ℕ) → t.left ≡ i ∷ rest → t.found ≡ Some f → c.cell i ≡ Some v → (c.marked v ≡ true) ⊎ (v ≡ f))
     → ((f : ℕ) → t.found ≡ Some f → is_live c.phase c.doomed c.marked f ≡ true)
+    → ((i : ℕ) → has t.left i ≡ true → has (c.cells t.unit) i ≡ true)
     → Lawful z c → Lawful z (record c { scan = set_at c.scan m (Some t) })
-rescanned z c m s t at same marking passed cursor live h = record {
+rescanned z c m s t at same marking passed cursor live own_left h = record {
   beyond = h.beyond;
+  scans_own = λ k q i. at_set (λ x. x ≡ Some q → has q.left i ≡ true → has (c.cells q.unit) i ≡ true) c.scan m (Some t) k
+      (λ e now. let is : t ≡ q = some_scan t q now in subst (λ (x : Scan). has x.left i ≡ true → has (c.cells x.unit) i ≡ true) is (own_left i))
+      (λ n was. h.scans_own k q i was);
   open_in = h.open_in;
   lanes = h.lanes;
   markers = record {
@@ -80,6 +93,8 @@ rescanned z c m s t at same marking passed cursor live h = record {
     rows = h.standing.rows;
     hands = h.standing.hands;
     own = h.standing.own;
+    in_hand = h.standing.in_hand;
+    in_own = h.standing.in_own;
     scans = λ v k e. let was = h.standing.scans v k e in go v k was;
     under = λ k q. at_set (λ x. x ≡ Some q → c.place q.unit ≡ UnderScan k) c.scan m (Some t) k
         (λ e now. let is : t ≡ q = some_scan t q now in ap (λ (x : Scan). c.place x.unit) (sym is) ∙ (ap c.place (sym same) ∙ (h.standing.under m s at ∙ ap UnderScan (sym e))))
@@ -134,9 +149,13 @@ not_behind (n ∷ rest) i e = go (i == n) refl
     go true is = inr (rest, ap (λ (x : ℕ). x ∷ rest) (sym (eqb-true i n is)))
     go false is = inl e
 
+behind_has : (ns : List ℕ) (i : ℕ) → has (behind ns) i ≡ true → has ns i ≡ true
+behind_has [] i e = e
+behind_has (n ∷ rest) i e = or_right (i == n) (has rest i) e
+
 -- The first of the cells that are left is settled: the scan goes on, or ends
 pub went_on : (z : Sizes) (c : Core) (m : ℕ) (s : Scan) → c.scan m ≡ Some s → c.phase ≡ Marking → ((i v : ℕ) (rest : List ℕ) → s.left ≡ i ∷ rest → c.cell i ≡ Some v → c.marked v ≡ true) → Lawful z c → Lawful z (goes_on c m s (behind s.left))
-went_on z c m s at marking settled h = go (behind s.left) before
+went_on z c m s at marking settled h = go (behind s.left) before (λ i more. h.scans_own m s i at (behind_has s.left i more))
   where
     before : (i v : ℕ) → has (c.cells s.unit) i ≡ true → has (behind s.left) i ≡ false → c.cell i ≡ Some v → c.marked v ≡ true
     before i v own off e = pick (not_behind s.left i off)
@@ -144,6 +163,9 @@ went_on z c m s at marking settled h = go (behind s.left) before
         pick : (has s.left i ≡ false) ⊎ ((rest : List ℕ) × (s.left ≡ i ∷ rest)) → c.marked v ≡ true
         pick (inl other) = (h.black marking).passed m s i v at own other e
         pick (inr first) = settled i v first.0 first.1 e
+
+    under_scan : c.place s.unit ≡ UnderScan m → InScans c.place s.unit
+    under_scan under = record { grey_u = λ none. absurd cc; hand = λ l hand. absurd cc; own = λ hand. absurd cc }
 
     leaving : Leaves c.scan (set_at c.scan m None) s.unit
     leaving = record {
@@ -153,9 +175,9 @@ went_on z c m s at marking settled h = go (behind s.left) before
       none = λ k was. at_set (λ x. x ≡ None) c.scan m None k (λ e. refl) (λ n. was);
     }
 
-    go : (ns : List ℕ) → ((i v : ℕ) → has (c.cells s.unit) i ≡ true → has ns i ≡ false → c.cell i ≡ Some v → c.marked v ≡ true) → Lawful z (goes_on c m s ns)
-    go [] all = left z c s.unit (set_at c.scan m None) marking (λ none. absurd (let under = h.standing.under m s at in cc)) (λ k v own cell. all k v own refl cell) leaving h
-    go (n ∷ rest) all = rescanned z c m s (record { unit = s.unit; left = n ∷ rest; found = None }) at refl marking all (λ i more f v is wrong. absurd cc) (λ f wrong. absurd cc) h
+    go : (ns : List ℕ) → ((i v : ℕ) → has (c.cells s.unit) i ≡ true → has ns i ≡ false → c.cell i ≡ Some v → c.marked v ≡ true) → ((i : ℕ) → has ns i ≡ true → has (c.cells s.unit) i ≡ true) → Lawful z (goes_on c m s ns)
+    go [] all own_left = left z c s.unit (set_at c.scan m None) marking (under_scan (h.standing.under m s at)) (λ k v own cell. all k v own refl cell) leaving h
+    go (n ∷ rest) all own_left = rescanned z c m s (record { unit = s.unit; left = n ∷ rest; found = None }) at refl marking all (λ i more f v is wrong. absurd cc) (λ f wrong. absurd cc) own_left h
 
 head_same : (a b : ℕ) (xs ys : List ℕ) → a ∷ xs ≡ b ∷ ys → b ≡ a
 head_same a b xs ys e = cc
@@ -172,6 +194,7 @@ found_cell z c m u k rest (Some t) at own is marking h =
     (λ i v own_i other e. (h.black marking).passed m (record { unit = u; left = k ∷ rest; found = None }) i v at own_i other e)
     (λ i more f v same found e. inr (some_same v f (sym e ∙ (ap c.cell (head_same k i rest more same) ∙ (is ∙ found)))))
     (λ f found. h.cells u k f (live_marking c.phase c.doomed c.marked u marking alive) own (is ∙ found))
+    (λ i. h.scans_own m (record { unit = u; left = k ∷ rest; found = None }) i at)
     h)
   where
     not_doomed : c.place u ≡ UnderScan m → c.doomed u ≡ false
@@ -204,6 +227,9 @@ on_scan z c m u ns all none at marking opened h =
     let same = moved c.place u (UnderScan m) (λ e. absurd cc) (λ e. absurd cc) in
     record {
       beyond = h.beyond;
+      scans_own = λ k q i. at_set (λ x. x ≡ Some q → has q.left i ≡ true → has (c.cells q.unit) i ≡ true) c.scan m (Some (record { unit = u; left = ns; found = None })) k
+          (λ e now. let is : record { unit = u; left = ns; found = None } ≡ q = some_same {A = Scan} (record { unit = u; left = ns; found = None }) q now in subst (λ (x : Scan). has x.left i ≡ true → has (c.cells x.unit) i ≡ true) is (λ on. subst (λ (xs : List ℕ). has xs i ≡ true) (sym all) on))
+          (λ n was. h.scans_own k q i was);
       open_in = h.open_in;
       lanes = h.lanes;
       markers = record {
@@ -216,6 +242,8 @@ on_scan z c m u ns all none at marking opened h =
         rows = λ v r. at_set (λ x. x ≡ InRow r → r ≤ z.markers) c.place u (UnderScan m) v (λ e wrong. absurd cc) (λ n. h.standing.rows v r);
         hands = λ v k. at_set (λ x. x ≡ InHand k → c.hand k ≡ Some v) c.place u (UnderScan m) v (λ e wrong. absurd cc) (λ n. h.standing.hands v k);
         own = λ v. at_set (λ x. x ≡ InCollector → c.own_hand ≡ Some v) c.place u (UnderScan m) v (λ e wrong. absurd cc) (λ n. h.standing.own v);
+        in_hand = λ k v hand. at_set (λ x. x ≡ InHand k) c.place u (UnderScan m) v (λ e. absurd (let was = h.standing.in_hand k v hand in let there : c.place v ≡ c.place u = ap c.place e in cc)) (λ n. h.standing.in_hand k v hand);
+        in_own = λ v hand. at_set (λ x. x ≡ InCollector) c.place u (UnderScan m) v (λ e. absurd (let was = h.standing.in_own v hand in let there : c.place v ≡ c.place u = ap c.place e in cc)) (λ n. h.standing.in_own v hand);
         scans = λ v k. at_set (λ x. x ≡ UnderScan k → (s : Scan) × (set_at c.scan m (Some (record { unit = u; left = ns; found = None })) k ≡ Some s) × (s.unit ≡ v)) c.place u (UnderScan m) v
             (λ e here. (record { unit = u; left = ns; found = None }, set_here c.scan m (Some (record { unit = u; left = ns; found = None })) k (under_of m k here), sym e))
             (λ n there. let was = h.standing.scans v k there in (was.0, set_there c.scan m (Some (record { unit = u; left = ns; found = None })) k (λ e. absurd (let some = was.1 in let same_scan : c.scan k ≡ c.scan m = ap c.scan e in cc)) ∙ was.1, was.2));
@@ -262,7 +290,7 @@ started z c m u none at marking h = go (c.cells u) refl
 
     go : (ns : List ℕ) → c.cells u ≡ ns → Lawful z (starts c m u ns)
     go [] e =
-        left z c u c.scan marking (λ f. absurd cc) (λ k v own cell. absurd (let nothing : has [] k ≡ true = subst (λ (xs : List ℕ). has xs k ≡ true) e own in cc))
+        left z c u c.scan marking (record { grey_u = λ none. absurd cc; hand = λ l hand. absurd cc; own = λ hand. absurd cc }) (λ k v own cell. absurd (let nothing : has [] k ≡ true = subst (λ (xs : List ℕ). has xs k ≡ true) e own in cc))
         (record {
           was = λ k s e. (e, λ same. absurd (let under = h.standing.under k s e in let there : c.place s.unit ≡ c.place u = ap c.place same in cc));
           stays = λ k s e n. e;

@@ -12,6 +12,7 @@ was_off f l k = at_set (λ b. b ≡ false → f k ≡ false) f l true k (λ e wr
 pub lane_opens : (z : Sizes) (c : Core) (l : ℕ) → l < z.lanes → Lawful z c → Lawful z (record c { lane_open = set_at c.lane_open l true })
 lane_opens z c l lt h = record {
   beyond = h.beyond;
+  scans_own = h.scans_own;
   open_in = record { lanes = λ k far. at_set (λ b. b ≡ false) c.lane_open l true k (λ e. absurd (omega arith)) (λ n. h.open_in.lanes k far); markers = h.open_in.markers };
   lanes = record { hand_is = λ k off. h.lanes.hand_is k (was_off c.lane_open l k off); owes_is = λ k off. h.lanes.owes_is k (was_off c.lane_open l k off) };
   markers = h.markers;
@@ -34,6 +35,7 @@ lane_opens z c l lt h = record {
 pub marker_opens : (z : Sizes) (c : Core) (m : ℕ) → m < z.markers → Lawful z c → Lawful z (record c { marker_open = set_at c.marker_open m true })
 marker_opens z c m lt h = record {
   beyond = h.beyond;
+  scans_own = h.scans_own;
   open_in = record { lanes = h.open_in.lanes; markers = λ k far. at_set (λ b. b ≡ false) c.marker_open m true k (λ e. absurd (omega arith)) (λ n. h.open_in.markers k far) };
   lanes = h.lanes;
   markers = record { scan_is = λ k off. h.markers.scan_is k (was_off c.marker_open m k off); owes_is = λ k off. h.markers.owes_is k (was_off c.marker_open m k off) };
@@ -60,6 +62,7 @@ closes Q f l here there k = at_set (λ b. b ≡ false → Q k) f l false k (λ e
 pub lane_closed : (z : Sizes) (c : Core) (l : ℕ) → IsFree c l → Lawful z c → Lawful z (record c { lane_open = set_at c.lane_open l false; holds = set_at c.holds l (λ u. false) })
 lane_closed z c l free h = record {
   beyond = h.beyond;
+  scans_own = h.scans_own;
   open_in = record { lanes = λ k far. at_set (λ b. b ≡ false) c.lane_open l false k (λ e. refl) (λ n. h.open_in.lanes k far); markers = h.open_in.markers };
   lanes = record {
     hand_is = closes (λ k. c.hand k ≡ None) c.lane_open l free.hand h.lanes.hand_is;
@@ -85,6 +88,7 @@ lane_closed z c l free h = record {
 pub marker_closed : (z : Sizes) (c : Core) (m : ℕ) → c.scan m ≡ None → c.marker_owes m ≡ false → ((u : ℕ) → c.place u ≡ OnStack m → ⊥) → Lawful z c → Lawful z (record c { marker_open = set_at c.marker_open m false })
 marker_closed z c m none clear empty h = record {
   beyond = h.beyond;
+  scans_own = h.scans_own;
   open_in = record { lanes = h.open_in.lanes; markers = λ k far. at_set (λ b. b ≡ false) c.marker_open m false k (λ e. refl) (λ n. h.open_in.markers k far) };
   lanes = h.lanes;
   markers = record {
@@ -112,6 +116,7 @@ pub gained : (z : Sizes) (c : Core) (l : ℕ) (got : Option ℕ) → c.lane_open
 gained z c l None on live h = h
 gained z c l (Some u) on live h = record {
   beyond = h.beyond;
+  scans_own = h.scans_own;
   open_in = h.open_in;
   lanes = h.lanes;
   markers = h.markers;
@@ -151,6 +156,7 @@ looked_marker_owes (Look r w) d lo mo place m owes = λ clean lanes markers. abs
 pub lane_dirties : (z : Sizes) (c : Core) (l : ℕ) → c.lane_owes l ≡ true → Lawful z c → Lawful z (record c { dirty = true; lane_owes = set_at c.lane_owes l false })
 lane_dirties z c l owes h = record {
   beyond = h.beyond;
+  scans_own = h.scans_own;
   open_in = h.open_in;
   lanes = record { hand_is = h.lanes.hand_is; owes_is = λ k off. at_set (λ b. b ≡ false) c.lane_owes l false k (λ e. refl) (λ n. h.lanes.owes_is k off) };
   markers = h.markers;
@@ -173,6 +179,7 @@ lane_dirties z c l owes h = record {
 pub marker_dirties : (z : Sizes) (c : Core) (m : ℕ) → c.marker_owes m ≡ true → Lawful z c → Lawful z (record c { dirty = true; marker_owes = set_at c.marker_owes m false })
 marker_dirties z c m owes h = record {
   beyond = h.beyond;
+  scans_own = h.scans_own;
   open_in = h.open_in;
   lanes = h.lanes;
   markers = record { scan_is = h.markers.scan_is; owes_is = λ k off. at_set (λ b. b ≡ false) c.marker_owes m false k (λ e. refl) (λ n. h.markers.owes_is k off) };

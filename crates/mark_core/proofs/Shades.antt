@@ -4,7 +4,7 @@ use Rattle.mark_core.specs.Changes.{set_at}
 use Rattle.mark_core.specs.Machine.{Phase, Marking, Place, Nowhere, InRow, OnStack, UnderScan, InHand, InCollector, Scan, Job, NoJob, Roots, Look, Sizes, Core}
 use Rattle.mark_core.specs.Steps.{IsFree, marks}
 use Rattle.mark_core.specs.Lawful.{Lawful, LanesRest, StacksInFrames, Standing, AreGrey, AreBlack, RootsFollowed, Unloaded, AtWork, LookedAt, CellsLive, FoundLive}
-use Rattle.mark_core.proofs.Tools.{at_set, set_here, set_there, apart, Grows, grows_one, live_grows, live_alive, live_marking}
+use Rattle.mark_core.proofs.Tools.{at_set, set_here, set_there, apart, some_same, Grows, grows_one, live_grows, live_alive, live_marking}
 
 -- Each clause that reads which units are marked, with more of them marked
 
@@ -58,6 +58,7 @@ whitened z c u p hand own marking white alive stands no_row lanes stacks standin
     let grows = grows_one c.marked u in
     record {
       beyond = h.beyond;
+      scans_own = h.scans_own;
       open_in = h.open_in;
       lanes = lanes;
       markers = h.markers;
@@ -83,6 +84,7 @@ marked_again z c u marking on h =
     let grows = grows_one c.marked u in
     record {
       beyond = h.beyond;
+      scans_own = h.scans_own;
       open_in = h.open_in;
       lanes = h.lanes;
       markers = h.markers;
@@ -142,6 +144,10 @@ lane_shades z c l u free marking alive h = go (c.marked u) refl
               (λ e own. set_here c.hand l (Some u) k (in_hand_of l k own) ∙ ap (λ (x : ℕ). Some x) (sym e))
               (λ n there. at_set (λ x. x ≡ Some v) c.hand l (Some u) k (λ e. absurd (let has_v = h.standing.hands v k there in let same : c.hand k ≡ c.hand l = ap c.hand e in let empty = free.hand in cc)) (λ other. h.standing.hands v k there));
           own = λ v. at_set (λ x. x ≡ InCollector → c.own_hand ≡ Some v) c.place u (InHand l) v (λ e wrong. absurd cc) (λ n. h.standing.own v);
+          in_hand = λ k v. at_set (λ x. x ≡ Some v → set_at c.place u (InHand l) v ≡ InHand k) c.hand l (Some u) k
+              (λ e mine. set_here c.place u (InHand l) v (sym (some_same u v mine)) ∙ ap InHand (sym e))
+              (λ n other. at_set (λ x. x ≡ InHand k) c.place u (InHand l) v (λ e. absurd (let was = h.standing.in_hand k v other in let none = h.grey.marked_is u white in let at : c.place v ≡ c.place u = ap c.place e in cc)) (λ o. h.standing.in_hand k v other));
+          in_own = λ v other. at_set (λ x. x ≡ InCollector) c.place u (InHand l) v (λ e. absurd (let was = h.standing.in_own v other in let none = h.grey.marked_is u white in let at : c.place v ≡ c.place u = ap c.place e in cc)) (λ o. h.standing.in_own v other);
           scans = λ v m. at_set (λ x. x ≡ UnderScan m → (s : Scan) × (c.scan m ≡ Some s) × (s.unit ≡ v)) c.place u (InHand l) v (λ e wrong. absurd cc) (λ n. h.standing.scans v m);
           under = λ m s e. at_set (λ x. x ≡ UnderScan m) c.place u (InHand l) s.unit (λ same. absurd (let was = h.standing.under m s e in let none = h.grey.marked_is u white in let at : c.place s.unit ≡ c.place u = ap c.place same in cc)) (λ n. h.standing.under m s e);
         })
@@ -161,6 +167,8 @@ marker_shades z c m u opened marking alive h = go (c.marked u) refl
           rows = λ v r. at_set (λ x. x ≡ InRow r → r ≤ z.markers) c.place u (OnStack m) v (λ e wrong. absurd cc) (λ n. h.standing.rows v r);
           hands = λ v k. at_set (λ x. x ≡ InHand k → c.hand k ≡ Some v) c.place u (OnStack m) v (λ e wrong. absurd cc) (λ n. h.standing.hands v k);
           own = λ v. at_set (λ x. x ≡ InCollector → c.own_hand ≡ Some v) c.place u (OnStack m) v (λ e wrong. absurd cc) (λ n. h.standing.own v);
+          in_hand = λ k v other. at_set (λ x. x ≡ InHand k) c.place u (OnStack m) v (λ e. absurd (let was = h.standing.in_hand k v other in let none = h.grey.marked_is u white in let at : c.place v ≡ c.place u = ap c.place e in cc)) (λ o. h.standing.in_hand k v other);
+          in_own = λ v other. at_set (λ x. x ≡ InCollector) c.place u (OnStack m) v (λ e. absurd (let was = h.standing.in_own v other in let none = h.grey.marked_is u white in let at : c.place v ≡ c.place u = ap c.place e in cc)) (λ o. h.standing.in_own v other);
           scans = λ v k. at_set (λ x. x ≡ UnderScan k → (s : Scan) × (c.scan k ≡ Some s) × (s.unit ≡ v)) c.place u (OnStack m) v (λ e wrong. absurd cc) (λ n. h.standing.scans v k);
           under = λ k s e. at_set (λ x. x ≡ UnderScan k) c.place u (OnStack m) s.unit (λ same. absurd (let was = h.standing.under k s e in let none = h.grey.marked_is u white in let at : c.place s.unit ≡ c.place u = ap c.place same in cc)) (λ n. h.standing.under k s e);
         })
@@ -185,6 +193,8 @@ collector_shades z c u p at_roots empty marking alive h = go (c.marked u) refl
           rows = λ v r. at_set (λ x. x ≡ InRow r → r ≤ z.markers) c.place u InCollector v (λ e wrong. absurd cc) (λ n. h.standing.rows v r);
           hands = λ v k. at_set (λ x. x ≡ InHand k → c.hand k ≡ Some v) c.place u InCollector v (λ e wrong. absurd cc) (λ n. h.standing.hands v k);
           own = λ v. at_set (λ x. x ≡ InCollector → Some u ≡ Some v) c.place u InCollector v (λ e here. ap (λ (x : ℕ). Some x) (sym e)) (λ n there. absurd (let has_v = h.standing.own v there in cc));
+          in_hand = λ k v other. at_set (λ x. x ≡ InHand k) c.place u InCollector v (λ e. absurd (let was = h.standing.in_hand k v other in let none = h.grey.marked_is u white in let at : c.place v ≡ c.place u = ap c.place e in cc)) (λ o. h.standing.in_hand k v other);
+          in_own = λ v mine. set_here c.place u InCollector v (sym (some_same u v mine));
           scans = λ v k. at_set (λ x. x ≡ UnderScan k → (s : Scan) × (c.scan k ≡ Some s) × (s.unit ≡ v)) c.place u InCollector v (λ e wrong. absurd cc) (λ n. h.standing.scans v k);
           under = λ k s e. at_set (λ x. x ≡ UnderScan k) c.place u InCollector s.unit (λ same. absurd (let was = h.standing.under k s e in let none = h.grey.marked_is u white in let at : c.place s.unit ≡ c.place u = ap c.place same in cc)) (λ n. h.standing.under k s e);
         })

@@ -6,6 +6,7 @@ use Rattle.mark_core.specs.Changes.{set_at}
 use Rattle.mark_core.specs.Machine.{Phase, Idle, Marking, Gathering, Actor, Lane, Marker, Collector, CellOf, StrongOf, Place, Nowhere, InRow, OnStack, InCollector, Scan, Job, NoJob, Roots, Look, Sizes, strong_place, root_places, frames, Core, same_place}
 use Rattle.mark_core.specs.Steps.{Step, FrameOpen, FrameClose, BeginExchange, Shade, SwapCell, LoadCell, AddRow, TakeRow, SetDirty, ClearDirty, LoadRow, CommitExchange, LoadHead, DoomHead, Settle, RootBit, is_live, MayStore, found_of, is_found, behind, is_roots, no_stack, no_white, LaneMay, MarkerMay, CollectorMay, Allowed, gains, marks, goes_on, moves_on, finds, starts, marker_loads, only_scans, finds_root, after_lane, after_marker, after_collector, after_step, AllAllowed, run}
 use Rattle.mark_core.specs.Lawful.{Lawful}
+use Rattle.mark_core.specs.Laws.{StepsStayLawful, EventsStayLawful}
 use Rattle.mark_core.proofs.Tools.{set_here, same_place_true, live_alive, in_or_beyond}
 use Rattle.mark_core.proofs.Seats.{lane_opens, marker_opens, lane_closed, marker_closed, gained, lane_dirties, marker_dirties}
 use Rattle.mark_core.proofs.Shades.{lane_shades, marker_shades, collector_shades}
@@ -196,11 +197,11 @@ collector_step z c (RootBit bit u None) may h = rested z (record c { job = Roots
 collector_step z c _ may h = absurd may
 
 -- The machine stays lawful
-pub step_lawful : (z : Sizes) (c : Core) (a : Actor) (e : Step) → Allowed z c a e → Lawful z c → Lawful z (after_step z c a e)
+pub step_lawful : StepsStayLawful
 step_lawful z c (Lane l) e may h = lane_step z c l e may.0 may.1 h
 step_lawful z c (Marker m) e may h = marker_step z c m e may.0 may.1 h
 step_lawful z c Collector e may h = collector_step z c e may h
 
-pub run_lawful : (z : Sizes) (c : Core) (events : List (Actor × Step)) → AllAllowed z c events → Lawful z c → Lawful z (run z c events)
+pub run_lawful : EventsStayLawful
 run_lawful z c [] may h = h
 run_lawful z c (e ∷ es) may h = run_lawful z (after_step z c e.0 e.1) es may.1 (step_lawful z c e.0 e.1 may.0 h)

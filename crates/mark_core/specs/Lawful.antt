@@ -32,8 +32,14 @@ pub record Standing (z : Sizes) (place : ℕ → Place) (hand : ℕ → Option �
   pub rows : (u r : ℕ) → place u ≡ InRow r → r ≤ z.markers
   pub hands : (u l : ℕ) → place u ≡ InHand l → hand l ≡ Some u
   pub own : (u : ℕ) → place u ≡ InCollector → own_hand ≡ Some u
+  pub in_hand : (l u : ℕ) → hand l ≡ Some u → place u ≡ InHand l
+  pub in_own : (u : ℕ) → own_hand ≡ Some u → place u ≡ InCollector
   pub scans : (u m : ℕ) → place u ≡ UnderScan m → (s : Scan) × (scan m ≡ Some s) × (s.unit ≡ u)
   pub under : (m : ℕ) (s : Scan) → scan m ≡ Some s → place s.unit ≡ UnderScan m
+
+-- Kept besides: what a scan has still to settle are cells of its unit; so its marker may load the one at its cursor
+abbrev pub ScansOwn : (ℕ → List ℕ) → (ℕ → Option Scan) → Type 0
+ScansOwn cells scan = (m : ℕ) (s : Scan) (k : ℕ) → scan m ≡ Some s → has s.left k ≡ true → has (cells s.unit) k ≡ true
 
 -- A grey unit is a marked one that is not doomed and was not scanned since the marking began.
 -- Kept besides: a scanned unit is marked; else it could be shaded and scanned once more
@@ -118,6 +124,7 @@ pub record Lawful (z : Sizes) (c : Core) : Type 0 where
   pub held_in : HeldInFrames c.lane_open c.holds
   pub stacks_in : StacksInFrames c.marker_open c.place
   pub standing : Standing z c.place c.hand c.own_hand c.scan
+  pub scans_own : ScansOwn c.cells c.scan
   pub grey : AreGrey c.doomed c.marked c.scanned c.place
   pub black : c.phase ≡ Marking → AreBlack c.doomed c.marked c.place c.cells c.cell c.scan
   pub roots : c.phase ≡ Marking → RootsFollowed c.marked c.root c.job c.own_found

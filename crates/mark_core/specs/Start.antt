@@ -1,5 +1,5 @@
--- The machine at its start.
-use Rattle.std.specs.Prelude.{ℕ, nat_le, true, false, List, None}
+-- The machine at its start, with units and without.
+use Rattle.std.specs.Prelude.{ℕ, nat_le, Bool, true, false, List, None}
 use Rattle.mark_core.specs.Machine.{Idle, Nowhere, NoJob, Sizes, Core}
 
 -- live units with these cells, which are empty; no root, phase Idle
@@ -26,3 +26,7 @@ start z cells = record {
   own_hand = None;
   own_found = λ u. false;
 }
+
+-- without units: each place is doomed, whatever its colour and its cells
+abbrev pub bare : (ℕ → Bool) → (ℕ → List ℕ) → Core
+bare marked cells = record (start (record { lanes = 0; markers = 0; units = 0; strong = 0 }) cells) { doomed = λ u. true; marked = marked }

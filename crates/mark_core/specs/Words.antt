@@ -1,26 +1,30 @@
--- The words that the machine shows, in the layouts of a heap in atomic words.
+-- The words that the machine shows: gate and heads in the layouts of a heap in atomic words, cells by the units alone.
 use Rattle.std.specs.Prelude.{ℕ, ◌+◌, ◌*◌, ◌/◌, ◌^◌, zero, suc, nat_lt, Bool, ◌&&◌, not, if◌then◌else◌, Option, Some, None, is_some}
-use Rattle.mark_core.specs.Machine.{Phase, Idle, Marking, Gathering, Cell, CellOf, StrongOf, Place, Sizes, strong_place, Core, row_bit, frames}
+use Rattle.word_layout.specs.declared.gate.Gate.{Gate}
+use Rattle.word_layout.specs.declared.head.Head.{Head}
+use Rattle.word_layout.specs.declared.head.Life.TheVariants as life
+use Rattle.word_layout.specs.Values as values
+use Rattle.word_layout.specs.Values.{bit}
+use Rattle.mark_core.specs.Machine.{Cell, CellOf, StrongOf, Place, Sizes, strong_place, Core, row_bit, frames}
 use Rattle.mark_core.specs.Steps.{Step, Shade, SwapCell, LoadCell, AddRow, TakeRow, LoadRow, LoadHead, DoomHead, RootBit}
 
-abbrev pub phase_number : Phase → ℕ
-phase_number Idle = 0
-phase_number Marking = 1
-phase_number Gathering = 2
-
-abbrev pub bit : Bool → ℕ
-bit b = if b then 1 else 0
+-- the gate
+abbrev pub gate : Sizes → Core → Gate
+gate z c = record { phase = c.phase; parity = c.parity; dirty = c.dirty; frames = frames z c }
 
 abbrev pub gate_word : Sizes → Core → ℕ
-gate_word z c = phase_number c.phase + 4 * bit c.parity + 8 * bit c.dirty + 256 * frames z c
+gate_word z c = values.gate_word (gate z c)
 
 -- whether the colour of a unit is set: it equals the parity exactly where the unit is marked
 abbrev pub colour : Core → ℕ → Bool
 colour c u = if c.marked u then c.parity else not c.parity
 
--- Live or Doomed, and the colour
+-- the head of a unit, which is Live until it is Doomed
+abbrev pub head : Core → ℕ → Head
+head c u = record { life = if c.doomed u then life.Doomed else life.Live; colour = colour c u; polls = 0 }
+
 abbrev pub head_word : Core → ℕ → ℕ
-head_word c u = (if c.doomed u then 2 else 1) + 8 * bit (colour c u)
+head_word c u = values.head_word (head c u)
 
 -- 0 for none, else 1 and the unit
 abbrev pub cell_word : Option ℕ → ℕ

@@ -1,14 +1,24 @@
 //! What is true of the machine: each law is the contract of an empty function.
-ghost use Rattle.mark_core.specs.Laws.{StaysLawful, EventsStayLawful, ScannedOnce, CommitsAreRight, ScanCloses, MakingIsLawful, DissolvingIsLawful, FramesAreCounted};
+ghost use Rattle.mark_core.specs.Laws.{StaysLawful, StepsStayLawful, EventsStayLawful, BareIsLawful, ScannedOnce, CommitsAreRight, ScanCloses, MakingIsLawful, ClearingIsLawful, LooseningIsLawful, FramesAreCounted};
 
 /// After every list of allowed events from the start the machine is lawful.
 pub fn stays_lawful()
     ensures { StaysLawful }
 {}
 
-/// So it is from every lawful machine on.
+/// So it is after one event of a lawful machine.
+pub fn steps_stay_lawful()
+    ensures { StepsStayLawful }
+{}
+
+/// And after every list of them.
 pub fn events_stay_lawful()
     ensures { EventsStayLawful }
+{}
+
+/// A machine without units is lawful: a heap may begin so, and make its units one by one.
+pub fn bare_is_lawful()
+    ensures { BareIsLawful }
 {}
 
 /// No unit is scanned twice in one marking.
@@ -16,8 +26,8 @@ pub fn scanned_once()
     ensures { ScannedOnce }
 {}
 
-/// When a commit exchange succeeds nothing is grey, and whatever a walk from a root bit or strong pointer
-/// reaches is marked and in the world.
+/// When a commit exchange of a lawful machine succeeds nothing is grey, and whatever a walk from a root bit or
+/// strong pointer reaches is marked and in the world.
 pub fn commits_are_right()
     ensures { CommitsAreRight }
 {}
@@ -27,14 +37,21 @@ pub fn scan_closes()
     ensures { ScanCloses }
 {}
 
-/// A machine in which an open lane made a unit is lawful.
+/// A machine in which an open lane made a unit is lawful. Nothing named its place before, its cells are empty,
+/// and where they are fresh the cells of other units stay as they were.
 pub fn making_is_lawful()
     ensures { MakingIsLawful }
 {}
 
-/// A machine in which a unit was taken apart outside of a marking is lawful.
-pub fn dissolving_is_lawful()
-    ensures { DissolvingIsLawful }
+/// A machine in which cells of a doomed unit were emptied is lawful. That a unit is released is no event: its
+/// place stays doomed, as a place without a unit is.
+pub fn clearing_is_lawful()
+    ensures { ClearingIsLawful }
+{}
+
+/// A machine in which a member of a unit became a unit by itself outside of a marking is lawful.
+pub fn loosening_is_lawful()
+    ensures { LooseningIsLawful }
 {}
 
 /// The number of frames goes up by one with each that opens and down by one with each that closes, is at

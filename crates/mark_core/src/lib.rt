@@ -7,8 +7,9 @@
 //! follows (`Laws`). The laws are the contracts of empty functions here. `Core` is the machine over vectors: it
 //! says which events it allows, does them, answers the word that each found, and is lawful at every moment.
 //!
-//! It stands on `world_model` for the phases alone. A heap over atomic words is tied to it step by step: it
-//! shows that each of its steps is allowed here, and has the law of every list of steps.
+//! It stands on `world_model` for the phases and on `word_layout` for the words of gate and heads alone. A heap
+//! over atomic words is tied to it step by step: it shows that each of its steps is allowed here, and has the law
+//! of every list of steps.
 #![tactic(auto)]
 
 mod allowed;
@@ -31,8 +32,9 @@ mod types;
 mod words;
 
 pub use laws::{
-    commits_are_right, dissolving_is_lawful, events_stay_lawful, frames_are_counted,
-    making_is_lawful, scan_closes, scanned_once, stays_lawful,
+    bare_is_lawful, clearing_is_lawful, commits_are_right, events_stay_lawful, frames_are_counted,
+    loosening_is_lawful, making_is_lawful, scan_closes, scanned_once, stays_lawful,
+    steps_stay_lawful,
 };
 pub use marking::Core;
 pub use types::{Actor, Cell, Event, Job, Place, ScanAt, Shape};

@@ -1,7 +1,8 @@
 //! Worked runs, what is not allowed, and runs by chance.
 use crate::laws::{
-    commits_are_right, dissolving_is_lawful, events_stay_lawful, frames_are_counted,
-    making_is_lawful, scan_closes, scanned_once, stays_lawful,
+    bare_is_lawful, clearing_is_lawful, commits_are_right, events_stay_lawful, frames_are_counted,
+    loosening_is_lawful, making_is_lawful, scan_closes, scanned_once, stays_lawful,
+    steps_stay_lawful,
 };
 use crate::marking::Core;
 use crate::types::Event;
@@ -218,11 +219,14 @@ fn events_find_their_words(rt: HostRuntime) {
 #[test]
 fn laws() {
     stays_lawful();
+    steps_stay_lawful();
     events_stay_lawful();
+    bare_is_lawful();
     scanned_once();
     commits_are_right();
     scan_closes();
     making_is_lawful();
-    dissolving_is_lawful();
+    clearing_is_lawful();
+    loosening_is_lawful();
     frames_are_counted();
 }

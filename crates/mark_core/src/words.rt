@@ -1,28 +1,13 @@
 //! The words that the machine shows.
 ghost use Rattle.std.specs.Prelude.{◌≡◌, ℕ, ◌+◌, ◌*◌, ◌<◌, ◌^◌, Bool, true, false};
+ghost use Rattle.word_layout.specs.Values.{bit};
 ghost use Rattle.mark_core.specs.Numbered.{cell_of, step_of};
 ghost use Rattle.mark_core.specs.Shown.{state, sizes};
-ghost use Rattle.mark_core.specs.Words.{phase_number, bit, gate_word, head_word, cell_word, row_word, root_bit, root_word, target_of, old_word, colour};
+ghost use Rattle.mark_core.specs.Words.{gate_word, head, head_word, cell_word, row_word, root_bit, root_word, target_of, old_word, colour};
 
 use crate::machine::Machine;
 use crate::types::{Cell, Event};
-use world_model::Phase;
-
-fn bit(b: bool) -> u64
-    ensures { result ≡ bit b }
-{
-    if b { 1 } else { 0 }
-}
-
-fn phase_number(phase: Phase) -> u64
-    ensures { result ≡ phase_number phase }
-{
-    match phase {
-        Phase::Idle => 0,
-        Phase::Marking => 1,
-        Phase::Gathering => 2,
-    }
-}
+use word_layout::{Gate, Head, Life, pack_gate, pack_head};
 
 // The word with one more bit.
 fn with_bit(word: u64, i: u64, b: bool) -> u64
@@ -37,17 +22,32 @@ impl Machine {
     fn gate_word(&self) -> u64
         ensures { result ≡ gate_word (sizes self.now.shape) (state self.now) }
     {
-        phase_number(self.phase())
-            + 4 * bit(self.parity())
-            + 8 * bit(self.is_dirty())
-            + 256 * self.frames() as u64
+        pack_gate(Gate {
+            phase: self.phase(),
+            parity: self.parity(),
+            dirty: self.is_dirty(),
+            frames: self.frames(),
+        })
     }
 
     fn head_word(&self, unit: u32) -> u64
         ensures { result ≡ head_word (state self.now) unit }
     {
-        let life = if self.is_doomed(unit) { 2 } else { 1 };
-        life + 8 * bit(self.colour(unit))
+        pack_head(Head {
+            life: self.life(unit),
+            colour: self.colour(unit),
+            polls: 0,
+        })
+    }
+
+    fn life(&self, unit: u32) -> Life
+        ensures { result ≡ (head (state self.now) unit).life }
+    {
+        if self.is_doomed(unit) {
+            Life::Doomed
+        } else {
+            Life::Live
+        }
     }
 
     fn colour(&self, unit: u32) -> bool

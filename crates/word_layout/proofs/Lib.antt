@@ -1,3 +1,4 @@
 pub mod Different
 pub mod Apart
 pub mod Changing
+pub mod Filled

@@ -82,5 +82,13 @@ place z (part.Cell i slot) = cells_at z + (i * z.slots + slot)
 abbrev pub PlacesFit : Type 0
 PlacesFit = (z : Sizes) (p : Part) → IsPart z p → place z p < word_count z
 
+-- each word is that of a part
+abbrev pub PlacesFill : Type 0
+PlacesFill = (z : Sizes) (n : ℕ) → n < word_count z → (p : Part) × IsPart z p × (place z p ≡ n)
+
+-- each item has its bit in a word of a row: bit i of word w is that of item 64 * w + i
+abbrev pub RowsReach : Type 0
+RowsReach = (z : Sizes) (i : ℕ) → i < item_count z → i / 64 < row_words z
+
 abbrev pub PlacesDiffer : Type 0
 PlacesDiffer = (z : Sizes) (p q : Part) → IsPart z p → IsPart z q → place z p ≡ place z q → p ≡ q

@@ -1,6 +1,6 @@
 //! What is true of the words of all values.
 ghost use Rattle.word_layout.specs.Changes.{FramesAdd, PhaseChanges, DirtyChanges, ColourChanges, BitsChange};
-ghost use Rattle.word_layout.specs.Places.{PlacesFit, PlacesDiffer};
+ghost use Rattle.word_layout.specs.Places.{PlacesFit, PlacesFill, PlacesDiffer, RowsReach};
 ghost use Rattle.word_layout.specs.Values.{AreDifferent, IsGate, gate_word, IsHead, head_word, IsWeak, weak_word, IsRef, ref_word, IsKind, kind_word, IsStock, stock_word};
 
 /// Different gates in range have different words.
@@ -36,6 +36,16 @@ pub fn stocks_differ()
 /// Each part has a place below the number of words.
 pub fn places_fit()
     ensures { PlacesFit }
+{}
+
+/// Each place below the number of words is that of a part: no word is idle.
+pub fn places_fill()
+    ensures { PlacesFill }
+{}
+
+/// Each item has its bit in a row.
+pub fn rows_reach()
+    ensures { RowsReach }
 {}
 
 /// Different parts have different places.

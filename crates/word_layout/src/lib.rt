@@ -21,10 +21,10 @@ pub use head::{Head, Life, pack_head, unpack_head};
 pub use kind::{pack_kind, unpack_kind};
 pub use laws::{
     bits_change, colour_changes, dirty_changes, frames_add, gates_differ, heads_differ,
-    kinds_differ, pairs_differ, phase_changes, places_differ, places_fit, references_differ,
-    stocks_differ,
+    kinds_differ, pairs_differ, phase_changes, places_differ, places_fill, places_fit,
+    references_differ, rows_reach, stocks_differ,
 };
-pub use place::{Part, word_of};
+pub use place::{Part, word_count, word_of};
 pub use reference::{pack_ref, unpack_ref};
 pub use stock::{Stock, pack_stock, unpack_stock};
 pub use weak::{pack_weak, unpack_weak};

@@ -1,7 +1,7 @@
 //! The place of each word of a heap.
 ghost use Rattle.std.specs.Prelude.{◌≡◌, ◌<◌, ◌≤◌, ◌+◌, ◌*◌};
 ghost use Rattle.world_model.specs.Sizes.{item_count};
-ghost use Rattle.word_layout.specs.Places.{IsPart, place, row_words, lanes_at, roots_at, rows_at, items_at};
+ghost use Rattle.word_layout.specs.Places.{IsPart, place, row_words, lanes_at, roots_at, rows_at, items_at, word_count};
 
 use world_model::Shape;
 
@@ -26,7 +26,8 @@ pub enum Part {
     Cell(u32, u32),
     /// A word of the root set.
     Root(u32),
-    /// A word of a row of grey units: row 0 is the lanes', and each marker has one, from 1.
+    /// A word of a row of grey units, by the row and the word: row `m` is that of marker `m`, and row MARKERS,
+    /// the last one, that of the lanes and the collector.
     Row(u32, u32),
     /// A strong pointer of a lane.
     Strong(u32, u32),
@@ -112,6 +113,14 @@ fn items_at<S: Shape>(k: usize) -> usize
     ensures few { result ≤ 6594597 }
 {
     rows_at::<S>() + rows::<S>() + k * items::<S>()
+}
+
+/// How many words a heap has.
+pub fn word_count<S: Shape>() -> usize
+    ensures count { result ≡ word_count S.sizes }
+    ensures few { result ≤ 73703461 }
+{
+    items_at::<S>(6) + items::<S>() * (S::SLOTS as usize)
 }
 
 /// The place of a part, of those that the shape has. The gate has place 0.

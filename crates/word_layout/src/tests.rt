@@ -4,10 +4,10 @@ use crate::head::{Head, Life, pack_head, unpack_head};
 use crate::kind::{pack_kind, unpack_kind};
 use crate::laws::{
     bits_change, colour_changes, dirty_changes, frames_add, gates_differ, heads_differ,
-    kinds_differ, pairs_differ, phase_changes, places_differ, places_fit, references_differ,
-    stocks_differ,
+    kinds_differ, pairs_differ, phase_changes, places_differ, places_fill, places_fit,
+    references_differ, rows_reach, stocks_differ,
 };
-use crate::place::{Part, word_of};
+use crate::place::{Part, word_count, word_of};
 use crate::reference::{pack_ref, unpack_ref};
 use crate::stock::{Stock, pack_stock, unpack_stock};
 use crate::weak::{pack_weak, unpack_weak};
@@ -53,6 +53,13 @@ fn heads(rt: HostRuntime) {
     };
     assert_eq!(rt; pack_head(free), 0);
     assert_eq!(rt; unpack_head(0), Some(free));
+    let most = Head {
+        life: Life::Finished,
+        colour: true,
+        polls: 65535,
+    };
+    assert_eq!(rt; pack_head(most), 4294901772);
+    assert_eq!(rt; unpack_head(4294901772), Some(most));
     for w in [5, 7, 16, 32768, 4294967296] {
         assert_eq!(rt; unpack_head(w), None);
     }
@@ -127,6 +134,12 @@ fn stocks_and_pairs(rt: HostRuntime) {
     };
     assert_eq!(rt; pack_stock(none), 0);
     assert_eq!(rt; unpack_stock(0), Some(none));
+    let most = Stock {
+        first: Some(1048575),
+        count: 1048576,
+    };
+    assert_eq!(rt; pack_stock(most), 4503599628419072);
+    assert_eq!(rt; unpack_stock(4503599628419072), Some(most));
     for w in [1048577, 4294967295, 4503603922337792] {
         assert_eq!(rt; unpack_stock(w), None);
     }
@@ -143,22 +156,40 @@ fn stocks_and_pairs(rt: HostRuntime) {
     assert_eq!(rt; unpack_weak(0), empty);
 }
 
-// A level has 4 lanes of 8,192 items, rows of 512 words, 64 strong pointers a lane and 9 rows.
+// A level has 4 lanes of 8,192 items, rows of 512 words, 64 strong pointers a lane and 9 rows. The last of each
+// kind of part stands right before the first of the next kind.
 #[test]
 fn places(rt: HostRuntime) {
     assert_eq!(rt; word_of::<Level>(Part::Gate), 0);
+    assert_eq!(rt; word_of::<Level>(Part::Cursor), 1);
+    assert_eq!(rt; word_of::<Level>(Part::Removed), 2);
+    assert_eq!(rt; word_of::<Level>(Part::Left), 3);
     assert_eq!(rt; word_of::<Level>(Part::Polling), 4);
     assert_eq!(rt; word_of::<Level>(Part::FreeStock(0)), 5);
+    assert_eq!(rt; word_of::<Level>(Part::FreeStock(3)), 8);
+    assert_eq!(rt; word_of::<Level>(Part::ReturnStock(3)), 12);
+    assert_eq!(rt; word_of::<Level>(Part::NamesMade(3)), 16);
     assert_eq!(rt; word_of::<Level>(Part::SerialsMade(3)), 20);
     assert_eq!(rt; word_of::<Level>(Part::Strong(1, 2)), 87);
+    assert_eq!(rt; word_of::<Level>(Part::Strong(3, 63)), 276);
+    assert_eq!(rt; word_of::<Level>(Part::Root(0)), 277);
     assert_eq!(rt; word_of::<Level>(Part::Root(511)), 788);
     assert_eq!(rt; word_of::<Level>(Part::Row(0, 0)), 789);
     assert_eq!(rt; word_of::<Level>(Part::Row(8, 511)), 5396);
+}
+
+#[test]
+fn places_of_items(rt: HostRuntime) {
     assert_eq!(rt; word_of::<Level>(Part::Head(0)), 5397);
-    assert_eq!(rt; word_of::<Level>(Part::Owner(0)), 38165);
+    assert_eq!(rt; word_of::<Level>(Part::Head(32767)), 38164);
+    assert_eq!(rt; word_of::<Level>(Part::Owner(32767)), 70932);
+    assert_eq!(rt; word_of::<Level>(Part::Next(32767)), 103700);
+    assert_eq!(rt; word_of::<Level>(Part::NameOf(32767)), 136468);
+    assert_eq!(rt; word_of::<Level>(Part::KindOf(32767)), 169236);
     assert_eq!(rt; word_of::<Level>(Part::Serial(32767)), 202004);
     assert_eq!(rt; word_of::<Level>(Part::Cell(1, 11)), 202028);
     assert_eq!(rt; word_of::<Level>(Part::Cell(32767, 11)), 595220);
+    assert_eq!(rt; word_count::<Level>(), 595221);
     // A small world has 2 lanes of 8 items.
     assert_eq!(rt; word_of::<Small>(Part::Gate), 0);
     assert_eq!(rt; word_of::<Small>(Part::ReturnStock(1)), 8);
@@ -211,6 +242,8 @@ fn laws() {
     kinds_differ();
     stocks_differ();
     places_fit();
+    places_fill();
+    rows_reach();
     places_differ();
     frames_add();
     phase_changes();

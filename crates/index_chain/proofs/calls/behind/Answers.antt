@@ -1,4 +1,4 @@
-use Rattle.std.proofs.Common.{◌≡◌, ◌+◌, ◌-◌, suc, sym, ap, ◌∙◌, subst, arith, drop, IfSome}
+use Rattle.std.proofs.Common.{◌≡◌, ◌+◌, ◌-◌, suc, refl, sym, ap, ◌∙◌, subst, arith, [], drop, IfSome}
 use Rattle.std.specs.Prelude.{option_and_then}
 use Rattle.std.specs.List.{AllByRecursion}
 use Rattle.index_chain.specs.Walks.{Words, IsTold, next_of, walk, items}
@@ -31,5 +31,15 @@ loop-passed-preserved g c =
     let next = c.step-here.ensures.next ∙ ap (λ (w : Words). option_and_then (next_of w) c.loop-passed.here) c.loop-passed.invariant.words in
     record {
       words = c.step-here.ensures.words ∙ c.loop-passed.invariant.words;
+      writes = g.met.L.Links.follows c.args.links.now c.loop-passed.links c.step-here.new.links [] [] c.loop-passed.invariant.writes c.step-here.ensures.writes;
       rest = ap (walk words left) next ∙ on ∙ ap (λ n. drop n is) more;
+    }
+
+pub loop-passed-init : goal.loop-passed-init
+loop-passed-init g c =
+    let all : c.args.chain.count - 0 ≡ c.args.chain.count = omega arith in
+    record {
+      words = refl;
+      writes = g.met.L.Links.stays c.args.links.now;
+      rest = ap (λ n. walk (g.L.Links.words c.args.links.now) n c.args.chain.first) all;
     }

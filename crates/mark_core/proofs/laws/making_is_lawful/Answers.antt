@@ -1,5 +1,5 @@
-use Rattle.mark_core.proofs.Makes.{made_lawful}
+use Rattle.mark_core.proofs.Makes.{made}
 use Rattle.mark_core.proofs.laws.making_is_lawful.Goals as goal
 
 pub returns : goal.returns
-returns c = made_lawful
+returns c = made

@@ -1,6 +1,7 @@
 use Rattle.std.proofs.Common.{◌≡◌, ℕ, ◌+◌, ◌*◌, ◌<◌, ◌^◌, Bool, ap, sym, subst, ◌∙◌, arith, refl}
 use Rattle.mark_core.specs.Shown.{state, sizes}
-use Rattle.mark_core.specs.Words.{bit, bits_word, root_bit}
+use Rattle.word_layout.specs.Values.{bit}
+use Rattle.mark_core.specs.Words.{bits_word, root_bit}
 use Rattle.mark_core.proofs.Bits.{bits-more, bits-below}
 use Rattle.mark_core.proofs.machine.Machine.root_word.Goals as goal
 

@@ -1,7 +1,8 @@
 use Rattle.std.proofs.Common.{◌≡◌, ℕ, ◌+◌, ◌*◌, ◌<◌, ◌^◌, Bool, ap, sym, subst, ◌∙◌, arith, refl}
 use Rattle.mark_core.specs.Machine.{row_bit}
 use Rattle.mark_core.specs.Shown.{state}
-use Rattle.mark_core.specs.Words.{bit, bits_word}
+use Rattle.word_layout.specs.Values.{bit}
+use Rattle.mark_core.specs.Words.{bits_word}
 use Rattle.mark_core.proofs.Bits.{bits-more, bits-below}
 use Rattle.mark_core.proofs.machine.Machine.row_word.Goals as goal
 
