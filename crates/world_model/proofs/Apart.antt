@@ -1,6 +1,6 @@
 -- What is garbage decides nothing but what weak pointers give.
 use Rattle.std.proofs.Common.{◌≡◌, ℕ, refl, Bool, true, false, List, Option, Some, None, MatchOption}
-use Rattle.world_model.specs.Types.{Name, Begin, Commit, Swept, SweepStop, Purged, Marked, MarkStop, Weak, Pass, Lane, Marker, Collector, Act, Entry}
+use Rattle.world_model.specs.Types.{Name, Begin, Commit, Swept, SweepStop, Purged, Marked, MarkStop, Weak, Pass, Lane, Marker, Collector, Act}
 use Rattle.world_model.specs.Types.act
 use Rattle.world_model.specs.Types.begin
 use Rattle.world_model.specs.Types.commit
@@ -15,7 +15,7 @@ use Rattle.world_model.specs.LaneSteps.{IsWhite, InOpenFrame, InFrame, IsRefSlot
 use Rattle.world_model.specs.MarkerSteps.{InSlice, MarkerMay, MayStop}
 use Rattle.world_model.specs.CollectorSteps.{BeginMay, CommitMay, IsIdle, Sweeps, SweepMay, PurgeMay, CollectorMay}
 use Rattle.world_model.specs.Histories.{MayBy, state_of}
-use Rattle.world_model.specs.Follows.{is_of_garbage, SameButGarbage, with_garbage, IsApartFromGarbage, MarksChangeNothing, GarbageDecidesNothing}
+use Rattle.world_model.specs.Follows.{is_of_garbage, SameButGarbage, with_garbage, MarksChangeNothing, GarbageDecidesNothing}
 use Rattle.world_model.proofs.Inductions.{one_more}
 
 -- ---- marking as garbage changes nothing else

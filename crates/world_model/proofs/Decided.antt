@@ -1,21 +1,20 @@
 -- Refusals change nothing, and what a call is told is decided by the world.
-use Rattle.std.proofs.Common.{◌≡◌, ◌≢◌, ℕ, ◌+◌, ◌-◌, ◌<◌, ◌≤◌, refl, sym, subst, ap, ◌∙◌, inl, inr, arith, Bool, true, false, not, List, [], ◌∷◌, ◌++◌, length, append-nil, Result, Ok, Err}
-use Rattle.world_model.specs.Types.{Name, Kind, CreateErr, Begin, Commit, Swept, SweepStop, Purged, Phase, Idle, Marking, Gathering, Pass, Lane, Marker, Collector, Act, Entry}
+use Rattle.std.proofs.Common.{◌≡◌, ℕ, ◌+◌, refl, sym, subst, ap, ◌∙◌, arith, true, false, List, ◌++◌, length, append-nil, Result, Ok, Err}
+use Rattle.world_model.specs.Types.{Name, Kind, CreateErr, Begin, Commit, Swept, SweepStop, Pass, Lane, Marker, Collector, Act}
 use Rattle.world_model.specs.Types.act
 use Rattle.world_model.specs.Types.begin
 use Rattle.world_model.specs.Types.commit
 use Rattle.world_model.specs.Types.create
 use Rattle.world_model.specs.Types.sweep
-use Rattle.world_model.specs.Types.purge
 use Rattle.world_model.specs.Sizes.{Sizes}
-use Rattle.world_model.specs.World.{World, made, free}
-use Rattle.world_model.specs.State.{State, grey_units}
-use Rattle.world_model.specs.Next.{next_world, settled, next}
+use Rattle.world_model.specs.World.{World}
+use Rattle.world_model.specs.State.{State}
+use Rattle.world_model.specs.Next.{next_world, settled}
 use Rattle.world_model.specs.LaneSteps.{LaneMay}
 use Rattle.world_model.specs.CollectorSteps.{BeginMay, CommitMay, SweepMay}
-use Rattle.world_model.specs.Histories.{MayBy, May, LegalFrom, state_of, after}
-use Rattle.world_model.specs.Calls.{by, is_unfinished, CommitsAlone}
-use Rattle.world_model.specs.Engines.{act_of_refusal, act_of_create}
+use Rattle.world_model.specs.Histories.{MayBy, LegalFrom, state_of}
+use Rattle.world_model.specs.Calls.{by, CommitsAlone}
+use Rattle.world_model.specs.Engines.{act_of_create}
 use Rattle.world_model.specs.Follows.{is_refusal, is_not_gathering, RefusalsChangeNothing, BeginIsDecided, SameCommit, CommitIsDecided, CreateIsDecided}
 use Rattle.world_model.proofs.Joins.{histories_join}
 use Rattle.world_model.proofs.Inductions.{one_more}

@@ -1,13 +1,12 @@
 -- The headline, from the laws that it joins.
-use Rattle.std.proofs.Common.{◌≡◌, refl, sym, subst, ap, ◌∙◌, inl, inr, Bool, true, false, List, [], ◌∷◌, ◌++◌, ◌⊎◌, Contains}
-use Rattle.std.specs.List.{list_any}
+use Rattle.std.proofs.Common.{◌≡◌, refl, sym, subst, ◌∙◌, inl, inr, Bool, true, false, List, [], ◌∷◌, ◌++◌, ◌⊎◌, Contains}
 use Rattle.world_model.specs.Types.{Name, Act, Entry}
 use Rattle.world_model.specs.Types.act
 use Rattle.world_model.specs.Sizes.{Sizes}
-use Rattle.world_model.specs.NameLists.{has, members}
+use Rattle.world_model.specs.NameLists.{has}
 use Rattle.world_model.specs.World.{World, unit_of, in_world}
 use Rattle.world_model.specs.Reach.{graph, IsUnit}
-use Rattle.world_model.specs.Histories.{Legal, state_of, after}
+use Rattle.world_model.specs.Histories.{Legal, after}
 use Rattle.world_model.specs.Laws.{done}
 use Rattle.world_model.specs.Follows.{is_done, IsParted, KeepsOrRemoves, RemovesUnreached, IsRemovedWhole, HeadlineHolds}
 use Rattle.world_model.proofs.ListFacts.{Among, among_contains, contains_among, among_test}

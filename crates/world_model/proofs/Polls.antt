@@ -1,9 +1,9 @@
 -- The polls of an object are numbered, and it is finished directly behind the one in which it agreed.
-use Rattle.std.proofs.Common.{◌≡◌, ◌≢◌, ℕ, ◌+◌, ◌≤◌, ◌<◌, min, refl, sym, subst, ap, ◌∙◌, inl, inr, arith, Bool, cond, true, false, not, List, [], ◌∷◌, ◌++◌, map, filter, append_assoc, Option, Some, None, ◌⊎◌}
-use Rattle.std.specs.List.{list_any, find, count_by, AllByRecursion}
+use Rattle.std.proofs.Common.{◌≡◌, ◌≢◌, ℕ, ◌+◌, min, refl, sym, subst, ap, ◌∙◌, inl, inr, arith, Bool, cond, true, false, List, [], ◌∷◌, ◌++◌, map, append_assoc, Some, ◌⊎◌}
+use Rattle.std.specs.List.{list_any, find, AllByRecursion}
 use Rattle.std.specs.Option.{option_map_or}
 use Rattle.std.proofs.lemmas.Bool.{both_ways, false_from_ne_true}
-use Rattle.world_model.specs.Types.{Name, Marking, Pass, Lane, Marker, Collector, Act, Entry}
+use Rattle.world_model.specs.Types.{Name, Pass, Lane, Marker, Collector, Act, Entry}
 use Rattle.world_model.specs.Types.act
 use Rattle.world_model.specs.Types.begin
 use Rattle.world_model.specs.Types.commit
@@ -12,11 +12,10 @@ use Rattle.world_model.specs.NameLists.{same_name, has, members}
 use Rattle.world_model.specs.World.{World, Removal, Removed, Begun, Finished, unit_of, in_world, is_at, polls_of}
 use Rattle.world_model.specs.State.{State, IsMarked, is_marked, white_units}
 use Rattle.world_model.specs.Next.{next_world, next, own_collecting}
-use Rattle.world_model.specs.CollectorSteps.{Asks, to_ask}
 use Rattle.world_model.specs.Histories.{MayBy, May, Legal, state_of, after}
 use Rattle.world_model.specs.Follows.{entry, IsMade, is_done, is_removed, made_by, freed_by, asks, times_asked, EndsWith, FinishedBehindPoll, PollsAreNumbered}
 use Rattle.world_model.proofs.ListFacts.{filter_among}
-use Rattle.world_model.proofs.NameFacts.{same_name_true, same_name_refl, has_among, among_has}
+use Rattle.world_model.proofs.NameFacts.{same_name_true, has_among, among_has}
 use Rattle.world_model.proofs.Joins.{histories_join, legal_join}
 use Rattle.world_model.proofs.Rounds.{named, in_removals_at, released_by, polls_of-at_stage, polls_of-polled_same, polls_of-polled_other, polls_of-released}
 use Rattle.world_model.proofs.Queues.{find_some, named_any}
@@ -157,12 +156,15 @@ finished_behind_poll_holds z history of legal =
 
         behind : e.pass ≢ Collector → (state_of xs).collector.agreed ≡ Some n → (poll : ℕ) × EndsWith (xs ++ e ∷ []) (act.Asked n poll true)
         behind other k =
-            let was = h n k in (was.0, record {
-              front = was.1.front;
-              others = was.1.others ++ e ∷ [];
-              are = ap (λ (ys : List Entry). ys ++ e ∷ []) was.1.are ∙ append_assoc was.1.front (entry Collector (act.Asked n was.0 true) ∷ was.1.others) (e ∷ []);
-              other = all_more was.1.others was.1.other;
-            })
+            let was = h n k in (
+              was.0,
+              record {
+                front = was.1.front;
+                others = was.1.others ++ e ∷ [];
+                are = ap (λ (ys : List Entry). ys ++ e ∷ []) was.1.are ∙ append_assoc was.1.front (entry Collector (act.Asked n was.0 true) ∷ was.1.others) (e ∷ []);
+                other = all_more was.1.others was.1.other;
+              },
+            )
           where
             all_more : (ys : List Entry) → AllByRecursion (λ x. x.pass ≢ Collector) ys → AllByRecursion (λ x. x.pass ≢ Collector) (ys ++ e ∷ [])
             all_more [] all = (other, tt)

@@ -1,11 +1,10 @@
 -- Since a collection has started no unit is scanned twice.
-use Rattle.std.proofs.Common.{◌≡◌, ℕ, ◌+◌, ◌≤◌, ◌<◌, refl, sym, subst, ap, ◌∙◌, inl, inr, zero, suc, arith, Bool, cond, true, false, not, List, [], ◌∷◌, ◌++◌, append_assoc, append-nil, ◌⊎◌}
-use Rattle.std.specs.List.{list_any, count_by, AllByRecursion}
+use Rattle.std.proofs.Common.{◌≡◌, ℕ, ◌+◌, ◌≤◌, refl, sym, subst, ap, ◌∙◌, zero, suc, arith, Bool, cond, true, false, List, [], ◌∷◌, ◌++◌, append_assoc, append-nil}
+use Rattle.std.specs.List.{list_any, count_by}
 use Rattle.std.proofs.lemmas.Bool.{both_ways, not-true}
 use Rattle.world_model.specs.Types.{Name, Pass, Lane, Marker, Collector, Act, Entry}
 use Rattle.world_model.specs.Types.act
 use Rattle.world_model.specs.Types.begin
-use Rattle.world_model.specs.Types.commit
 use Rattle.world_model.specs.Sizes.{Sizes}
 use Rattle.world_model.specs.NameLists.{has}
 use Rattle.world_model.specs.World.{unit_of, in_world}
@@ -14,12 +13,12 @@ use Rattle.world_model.specs.Next.{next}
 use Rattle.world_model.specs.Histories.{MayBy, May, Legal, LegalFrom, state_of, after}
 use Rattle.world_model.specs.Laws.{started}
 use Rattle.world_model.specs.Follows.{is_start, NoneStarts, scans, ScannedOnce}
-use Rattle.world_model.proofs.ListFacts.{and_true, Among, contains_among, test_among, among_test}
+use Rattle.world_model.proofs.ListFacts.{and_true, test_among, among_test}
 use Rattle.world_model.proofs.NameFacts.{found_unit, has_among, among_has}
-use Rattle.world_model.proofs.Joins.{legal_split, legal_join}
+use Rattle.world_model.proofs.Joins.{legal_split}
 use Rattle.world_model.proofs.Inductions.{one_more}
 use Rattle.world_model.proofs.Units.{units_apart}
-use Rattle.world_model.proofs.Barrier.{own_unit, member_lives}
+use Rattle.world_model.proofs.Barrier.{own_unit}
 use Rattle.world_model.proofs.Frames.{units_never_join_holds}
 use Rattle.world_model.proofs.Progress.{scanned_more, own_scanned}
 use Rattle.world_model.proofs.Stages.{one_counted}
