@@ -135,6 +135,12 @@ left_apart s garbage p (act.BeginGc begin.Started) not = record { world = refl; 
 left_apart s garbage p (act.CommitGc commit.Done) not = record { world = refl; kept = refl; fresh = refl; scanned = refl }
 left_apart s garbage p _ not = record { world = refl; kept = refl; fresh = refl; scanned = refl }
 
+frames_apart : (s : State) (garbage : Name → Bool) (p : Pass) (a : Act) → is_of_garbage a ≡ false → (next (with_garbage s garbage) (record { pass = p; act = a })).frames ≡ (next s (record { pass = p; act = a })).frames
+frames_apart s garbage p (act.MarkGarbage at old) not = absurd cc
+frames_apart s garbage p (act.BeginGc begin.Started) not = refl
+frames_apart s garbage p (act.CommitGc commit.Done) not = refl
+frames_apart s garbage p _ not = refl
+
 stays_apart : (s : State) (p : Pass) (a : Act) → is_of_garbage a ≡ false → (next s (record { pass = p; act = a })).world.garbage ≡ s.world.garbage
 stays_apart s p (act.MarkGarbage at old) not = absurd cc
 stays_apart s p (act.BeginGc begin.Started) not = refl
@@ -145,5 +151,7 @@ pub garbage_decides_nothing_holds : GarbageDecidesNothing
 garbage_decides_nothing_holds z s e not garbage = record {
   may = (may_apart z s garbage e.pass e.act not, may_apart z (with_garbage s garbage) s.world.garbage e.pass e.act not);
   left = left_apart s garbage e.pass e.act not;
+  frames = frames_apart s garbage e.pass e.act not;
+  collector = refl;
   stays = stays_apart s e.pass e.act not;
 }

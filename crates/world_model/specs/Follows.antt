@@ -448,6 +448,8 @@ with_garbage s garbage = record s { world = record s.world { garbage = garbage }
 pub record IsApartFromGarbage (z : Sizes) (s : State) (e : Entry) (garbage : Name → Bool) : Type 0 where
   pub may : May z s e ↔ May z (with_garbage s garbage) e
   pub left : SameButGarbage (next s e) (next (with_garbage s garbage) e)
+  pub frames : (next (with_garbage s garbage) e).frames ≡ (next s e).frames
+  pub collector : (next (with_garbage s garbage) e).collector ≡ (next s e).collector
   pub stays : (next s e).world.garbage ≡ s.world.garbage
 
 -- No other entry hangs on what is garbage: marking, removal and destruction go as they would without.
