@@ -1,5 +1,5 @@
 -- The open frames and slices after one call.
-use Rattle.std.proofs.Common.{◌≡◌, ℕ, arith, cond, refl, ap, ◌∙◌, inl, inr, Bool, true, false, not, List, [], ◌∷◌, ◌++◌, map, filter, Option, Result, Ok, Err}
+use Rattle.std.proofs.Common.{◌≡◌, ℕ, ◌<◌, arith, cond, refl, ap, ◌∙◌, inl, inr, Bool, true, false, not, List, [], ◌∷◌, ◌++◌, map, filter, Option, Result, Ok, Err}
 use Rattle.std.specs.List.{list_all, list_any}
 use Rattle.std.proofs.lemmas.Bool.{and_from}
 use Rattle.world_model.specs.Sizes.{Sizes, level, small}
@@ -9,10 +9,10 @@ use Rattle.world_model.specs.State.{State, Marks}
 use Rattle.world_model.specs.Next.{next_world, next, run}
 use Rattle.world_model.specs.Histories.{after, state_of}
 use Rattle.world_model.specs.Calls.{by, Appends, CallOf, is_mark_note, is_purge_part}
-use Rattle.world_model.specs.Engines.{act_of_create, IsInFrame}
+use Rattle.world_model.specs.Engines.{act_of_create, act_of_dissolve, IsInFrame}
 use Rattle.world_model.proofs.Joins.{run-append, by-append}
 use Rattle.world_model.proofs.ListFacts.{and_true}
-use Rattle.heap_plain.specs.Types.{Name, Kind, Pass, Lane, Marker, Phase, Begin, Marked, Commit, Swept, Purged, CreateErr, Act, Entry}
+use Rattle.heap_plain.specs.Types.{Name, Kind, Pass, Lane, Marker, Phase, Begin, Marked, Commit, Swept, Purged, CreateErr, DissolveErr, Act, Entry}
 use Rattle.heap_plain.specs.Types.act
 use Rattle.heap_plain.specs.Types.begin
 use Rattle.heap_plain.specs.Types.commit
@@ -121,8 +121,21 @@ closed_by_slice {old = old} {marker = marker} {budget} {reply} h none =
     out false e = absurd cc
 
 -- where the frame of lane 0 alone is open
+pub in_frame_of : (z : Sizes) (h : List Entry) → 0 < z.lanes → (after h).opened ≡ Lane 0 ∷ [] → IsInFrame z h 0
+in_frame_of z h some e = record { in_range = some; opened = ap (list_any (same_pass (Lane 0))) e }
+
 pub in_frame : (h : List Entry) → (after h).opened ≡ Lane 0 ∷ [] → IsInFrame small h 0
-in_frame h e = record { in_range = omega arith; opened = ap (list_any (same_pass (Lane 0))) e }
+in_frame h e = in_frame_of small h (omega arith) e
+
+pub in_level_frame : (h : List Entry) → (after h).opened ≡ Lane 0 ∷ [] → IsInFrame level h 0
+in_level_frame h e = in_frame_of level h (omega arith) e
+
+-- that frame is opened, and closed
+pub opens_alone : {z : Sizes} {old new : List Entry} {phase : Phase} → Appends z old new (Lane 0) (act.FrameOpen phase) → (after old).opened ≡ [] → (after new).opened ≡ Lane 0 ∷ []
+opens_alone h none = opened_by_frame h ∙ ap (λ (passes : List Pass). Lane 0 ∷ passes) none
+
+pub closes_alone : {z : Sizes} {old new : List Entry} → Appends z old new (Lane 0) act.FrameClose → (after old).opened ≡ Lane 0 ∷ [] → (after new).opened ≡ []
+closes_alone h one = closed_by_frame h ∙ ap (filter (λ q. not (same_pass (Lane 0) q))) one
 
 -- reading and writing cells opens nothing
 pub same_by_read : {z : Sizes} {old new : List Entry} {p : Pass} {at : Name} {slot : ℕ} {got : Option Name} → Appends z old new p (act.ReadRef at slot got) → (after new).opened ≡ (after old).opened
@@ -141,6 +154,18 @@ same_by_read_plain {old} {p} h = by_entries h ∙ run_opened (state_of old) p h.
 pub same_by_write_plain : {z : Sizes} {old new : List Entry} {p : Pass} {at : Name} {slot value was : ℕ} → Appends z old new p (act.WritePlain at slot value was) → (after new).opened ≡ (after old).opened
 same_by_write_plain {old} {p} h = by_entries h ∙ run_opened (state_of old) p h.acts (ap (list_all is_inside) h.call)
 
--- the same in a level
-pub in_level_frame : (h : List Entry) → (after h).opened ≡ Lane 0 ∷ [] → IsInFrame level h 0
-in_level_frame h e = record { in_range = omega arith; opened = ap (list_any (same_pass (Lane 0))) e }
+-- nor does marking objects as garbage, or telling whether they are
+pub same_by_garbage : {z : Sizes} {old new : List Entry} {p : Pass} {at : Name} {was : Bool} → Appends z old new p (act.MarkGarbage at was) → (after new).opened ≡ (after old).opened
+same_by_garbage {old} {p} h = by_entries h ∙ run_opened (state_of old) p h.acts (ap (list_all is_inside) h.call)
+
+pub same_by_valid : {z : Sizes} {old new : List Entry} {p : Pass} {at : Name} {valid : Bool} → Appends z old new p (act.IsValid at valid) → (after new).opened ≡ (after old).opened
+same_by_valid {old} {p} h = by_entries h ∙ run_opened (state_of old) p h.acts (ap (list_all is_inside) h.call)
+
+-- nor does taking a unit apart
+pub same_by_dissolve : {z : Sizes} {old new : List Entry} {lane : ℕ} (at : Name) (result : Result ℕ DissolveErr) → Appends z old new (Lane lane) (act_of_dissolve at result) → (after new).opened ≡ (after old).opened
+same_by_dissolve {old} {lane} at (Ok count) h = by_entries h ∙ run_opened (state_of old) (Lane lane) h.acts (ap (list_all is_inside) h.call.are ∙ leaving h.call.of)
+  where
+    leaving : (of : List Name) → list_all is_inside (map act.Loose of ++ act.Dissolve at count ∷ []) ≡ true
+    leaving [] = refl
+    leaving (n ∷ of) = leaving of
+same_by_dissolve {old} {lane} at (Err refused) h = by_entries h ∙ run_opened (state_of old) (Lane lane) h.acts (ap (list_all is_inside) h.call)

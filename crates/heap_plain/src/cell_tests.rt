@@ -1,4 +1,4 @@
-//! References and numbers in objects, and what a collection keeps by them.
+//! References and numbers in objects, what a collection keeps by them, and marks as garbage.
 ghost use Rattle.std.specs.Prelude.{◌≡◌, ◌∷◌, [], All, IfOk, IfSome, OnOk};
 ghost use Rattle.world_model.specs.Histories.{after};
 ghost use Rattle.world_model.specs.Engines.{KeepsHeld};
@@ -113,8 +113,9 @@ fn get_number(rt: &impl Abort, heap: &mut PlainHeap<Small>, at: Ref, slot: u32) 
 }
 
 /// A step of a test over a table of references, by places of the table: make an object, or root
-/// one; write a reference cell, and read one; write a plain cell, and read one. Behind what is
-/// written stands what was there, and behind what is read stands what is found.
+/// one; write a reference cell, and read one; write a plain cell, and read one; mark an object as
+/// garbage, and tell whether one is valid. Behind what is written stands what was there, and behind
+/// what is read stands what is found.
 #[derive(Clone, Copy)]
 enum Step {
     Make(usize),
@@ -123,6 +124,8 @@ enum Step {
     Read(usize, u32, Option<usize>),
     Set(usize, u32, u64, u64),
     Get(usize, u32, u64),
+    Garbage(usize, bool),
+    Valid(usize, bool),
 }
 
 /// A heap in whose open frame lane 0 has made one object.
@@ -171,7 +174,7 @@ fn link_at(
     }
 }
 
-/// Makes a step that reads or writes a cell, and looks at its answer.
+/// Makes a step that makes no object, and looks at its answer.
 fn take(rt: &impl Abort, heap: &mut PlainHeap<Small>, refs: &[Ref], step: Step) -> Result<(), Fail>
     requires opened { (after heap.old.history).opened ≡ Lane 0 ∷ [] }
     requires held { All (Holds heap.old 0) refs.now }
@@ -200,6 +203,14 @@ fn take(rt: &impl Abort, heap: &mut PlainHeap<Small>, refs: &[Ref], step: Step) 
         Step::Get(at, slot, got) => {
             assert!(rt; at < refs.len());
             assert_eq!(rt; get_number(rt, heap, refs[at], slot)?, got);
+        }
+        Step::Garbage(at, old) => {
+            assert!(rt; at < refs.len());
+            assert_eq!(rt; heap.mark_garbage(0, refs[at]), old);
+        }
+        Step::Valid(at, valid) => {
+            assert!(rt; at < refs.len());
+            assert_eq!(rt; heap.is_valid(0, refs[at]), valid);
         }
     }
     Ok(())
@@ -366,6 +377,48 @@ fn a_released_index_has_empty_cells(rt: HostRuntime) -> Result<(), Fail> {
         Step::Read(1, 1, None),
         Step::Get(0, 3, 0),
         Step::Get(1, 3, 0),
+    ];
+    renewed(&rt, rt.alloc(), &before, &steps)
+}
+
+#[test]
+fn a_new_object_at_the_index_of_garbage_is_valid(rt: HostRuntime) -> Result<(), Fail> {
+    let before = [
+        Step::Make(1),
+        Step::Make(2),
+        Step::Make(3),
+        Step::Make(4),
+        Step::Make(5),
+        Step::Make(6),
+        Step::Make(7),
+        Step::Valid(7, true),
+        Step::Garbage(0, false),
+        Step::Garbage(1, false),
+        Step::Garbage(2, false),
+        Step::Garbage(3, false),
+        Step::Garbage(4, false),
+        Step::Garbage(5, false),
+        Step::Garbage(6, false),
+        Step::Garbage(7, false),
+        Step::Garbage(7, true),
+        Step::Valid(7, false),
+    ];
+    let steps = [
+        Step::Make(1),
+        Step::Make(2),
+        Step::Make(3),
+        Step::Make(4),
+        Step::Make(5),
+        Step::Make(6),
+        Step::Make(7),
+        Step::Valid(0, true),
+        Step::Valid(1, true),
+        Step::Valid(2, true),
+        Step::Valid(3, true),
+        Step::Valid(4, true),
+        Step::Valid(5, true),
+        Step::Valid(6, true),
+        Step::Valid(7, true),
     ];
     renewed(&rt, rt.alloc(), &before, &steps)
 }

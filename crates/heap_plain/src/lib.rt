@@ -24,4 +24,6 @@ pub use heap::PlainHeap;
 #[cfg(test)]
 mod cell_tests;
 #[cfg(test)]
+mod part_tests;
+#[cfg(test)]
 mod tests;

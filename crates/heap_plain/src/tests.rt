@@ -11,7 +11,7 @@ use world_model::{
     Name, Phase, Purged, Ready, Ref, Small, SweepStop, Swept,
 };
 
-const PLAIN: Kind = Kind {
+pub(crate) const PLAIN: Kind = Kind {
     class: ClassId(0),
     refs: 0,
     plain: 0,
