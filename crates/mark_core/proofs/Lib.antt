@@ -24,3 +24,7 @@ pub mod Made
 pub mod Bits
 pub mod Runs
 pub mod Frames
+pub mod Stuck
+pub mod Sums
+pub mod Weights
+pub mod Ends

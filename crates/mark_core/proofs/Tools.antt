@@ -116,7 +116,7 @@ count-most f (suc n) = go (f n) (count-most f n)
     go false h = omega arith
 
 -- a change at or above n is not seen
-count-above : (f : ℕ → Bool) (i : ℕ) (v : Bool) (n : ℕ) → n ≤ i → count_below (set_at f i v) n ≡ count_below f n
+pub count-above : (f : ℕ → Bool) (i : ℕ) (v : Bool) (n : ℕ) → n ≤ i → count_below (set_at f i v) n ≡ count_below f n
 unfolding count_below
 count-above f i v zero le = refl
 count-above f i v (suc n) le = go (set_at f i v n) (f n) (set_there f i v n (λ e. absurd (omega arith))) (count-above f i v n (omega arith))

@@ -7,6 +7,7 @@ pub mod Reach
 pub mod Progress
 pub mod Makes
 pub mod Laws
+pub mod GoesOn
 pub mod Words
 pub mod Sets
 pub mod Units

@@ -1,4 +1,6 @@
 //! What is true of the machine: each law is the contract of an empty function.
+ghost use Rattle.mark_core.specs.GoesOn.{NobodyIsStuck, MarkingsCanEnd};
+ghost use Rattle.mark_core.specs.Machine.{Sizes};
 ghost use Rattle.mark_core.specs.Laws.{StaysLawful, StepsStayLawful, EventsStayLawful, BareIsLawful, ScannedOnce, CommitsAreRight, ScanCloses, MakingIsLawful, ClearingIsLawful, LooseningIsLawful, FramesAreCounted};
 
 /// After every list of allowed events from the start the machine is lawful.
@@ -58,4 +60,15 @@ pub fn loosening_is_lawful()
 /// most that of the lanes and markers, and is 0 only where all are closed.
 pub fn frames_are_counted()
     ensures { FramesAreCounted }
+{}
+
+/// Each event leaves the scans and the collector something to do, on a machine that has a root set.
+pub fn nobody_is_stuck()
+    ensures { (z : Sizes) → NobodyIsStuck z }
+{}
+
+/// A marking can end: from every lawful machine that marks and has no lane's frame open, there are allowed
+/// events of markers and the collector that lead to a commit.
+pub fn markings_can_end()
+    ensures { MarkingsCanEnd }
 {}

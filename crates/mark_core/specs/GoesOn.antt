@@ -1,0 +1,36 @@
+-- That a marking can end: nobody is stuck.
+use Rattle.std.specs.Prelude.{◌≡◌, ℕ, ◌+◌, ◌<◌, ◌≤◌, ⊤, Bool, false, ◌⊎◌, List, Some}
+use Rattle.mark_core.specs.Changes.{is_empty}
+use Rattle.mark_core.specs.Machine.{Marking, Actor, Scan, Job, NoJob, Roots, Look, Sizes, root_places, words, Core}
+use Rattle.mark_core.specs.Steps.{Step, roots_done, Allowed, AllAllowed, after_step, run}
+use Rattle.mark_core.specs.Lawful.{Lawful}
+use Rattle.mark_core.specs.Start.{start, bare}
+use Rattle.mark_core.specs.Laws.{Commits}
+
+-- the collector looks at a word that the machine has, or has looked at all
+abbrev pub LooksInRange : Sizes → Job → Type 0
+LooksInRange z (Look row word) = ((row ≤ z.markers) × (word < words z)) ⊎ ((row ≡ z.markers + 1) × (word ≡ 0))
+LooksInRange z _ = ⊤
+
+-- Each scan has a cell to settle; while the collector goes over the root set there is a place to load, a unit found or
+-- one in hand; and where it looks there is a word
+pub record GoesOn (z : Sizes) (c : Core) : Type 0 where
+  pub scans : (m : ℕ) (s : Scan) → c.scan m ≡ Some s → is_empty s.left ≡ false
+  pub roots : roots_done z c.job c.own_hand c.own_found ≡ false
+  pub looks : LooksInRange z c.job
+
+-- so it is at the start, with units and without, and after each event of a machine that has a root set
+pub record NobodyIsStuck (z : Sizes) : Type 0 where
+  pub start : (cells : ℕ → List ℕ) → GoesOn z (start z cells)
+  pub bare : (marked : ℕ → Bool) (cells : ℕ → List ℕ) → GoesOn z (bare marked cells)
+  pub step : (c : Core) (a : Actor) (e : Step) → 0 < root_places z → Allowed z c a e → GoesOn z c → GoesOn z (after_step z c a e)
+
+-- these events are allowed one after the other, and then a commit exchange succeeds
+pub record LeadsToCommit (z : Sizes) (c : Core) : Type 0 where
+  pub events : List (Actor × Step)
+  pub allowed : AllAllowed z c events
+  pub commits : Commits z (run z c events)
+
+-- From every lawful machine that marks, with no lane's frame open, some events lead to a commit
+abbrev pub MarkingsCanEnd : Type 0
+MarkingsCanEnd = (z : Sizes) (c : Core) → 0 < z.markers → c.phase ≡ Marking → ((lane : ℕ) → c.lane_open lane ≡ false) → GoesOn z c → Lawful z c → LeadsToCommit z c
