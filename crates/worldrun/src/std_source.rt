@@ -1,21 +1,25 @@
 //! A reader of the system as a source.
-ghost use Rattle.std.specs.Prelude.{◌≡◌, ℕ, ◌≤◌, length, None, IfOk};
+ghost use Rattle.std.specs.Prelude.{◌≡◌, ℕ, ◌≤◌, length, IfOk};
+ghost use Rattle.std.specs.Io.KnownBytes.{ReadConsumes};
 
+use crate::steady::SteadyRead;
+use play_io::{Failed, Source};
 use std::io;
 use std::io::{ErrorKind, Read};
-use world_play::{Failed, Source};
 
-/// Gives what a reader reads. It tells no bytes, and counts the reads that failed.
+/// Gives what a reader reads, and counts the reads that failed. It tells the bytes that the reader
+/// tells; standard input tells none.
 #[derive(Drop)]
-pub struct StdSource<R: Read> {
-    reader: R,
-    faults: u64,
+pub struct StdSource<R: SteadyRead> {
+    pub reader: R,
+    pub faults: u64,
 }
 
-impl<R: Read> StdSource<R> {
+impl<R: SteadyRead> StdSource<R> {
     /// A source that has not failed yet.
     pub fn new(reader: R) -> StdSource<R>
-        ensures { result.faults ≡ 0 }
+        ensures reader { result.reader ≡ reader }
+        ensures faults { result.faults ≡ 0 }
     {
         StdSource { reader, faults: 0 }
     }
@@ -23,7 +27,9 @@ impl<R: Read> StdSource<R> {
 
 // Reads once. A read that was interrupted gave nothing, and is made again.
 fn read_once<R: Read>(reader: &mut R, buf: &mut [u8]) -> io::Result<usize>
-    ensures { IfOk result (λ n. n ≤ length buf.old) }
+    ensures bound { IfOk result (λ n. n ≤ length buf.old) }
+    ensures room { length buf.new ≡ length buf.old }
+    ensures passes { ReadConsumes (R.remaining reader.old) (R.remaining reader.new) result buf.new }
 {
     for _ in 0..u64::MAX {
         match reader.read(buf) {
@@ -34,8 +40,8 @@ fn read_once<R: Read>(reader: &mut R, buf: &mut [u8]) -> io::Result<usize>
     Err(io::Error::from(ErrorKind::Interrupted))
 }
 
-impl<R: Read> Source for StdSource<R> {
-    ghost left = { λ _. None };
+impl<R: SteadyRead> Source for StdSource<R> {
+    ghost left = { λ s. R.remaining s.reader };
 
     ghost faults = { λ s. s.faults };
 

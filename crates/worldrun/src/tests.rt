@@ -1,10 +1,15 @@
-//! What the clauses do not say: that bytes pass, and that a failure is counted.
+//! What the clauses do not say: that calls succeed, that an interrupted call is made again, and runs over
+//! readers and writers that fail.
+ghost use Rattle.std.specs.Prelude.{refl};
+
+use crate::program::{end, program};
 use crate::std_sink::StdSink;
 use crate::std_source::StdSource;
-use crate::tell;
+use crate::steady::{SteadyRead, SteadyWrite};
+use play_io::{Failed, PutErr, Sink, Source};
 use std::io;
 use std::io::{BufWriter, ErrorKind, Read, Write};
-use world_play::{Failed, PutErr, Sink, Source, Status};
+use world_play::Status;
 
 // Fails each time.
 #[derive(Drop)]
@@ -34,6 +39,14 @@ struct Interrupted {
     done: bool,
 }
 
+impl SteadyRead for Broken {
+    ghost steady = { λ r s none. refl };
+}
+
+impl SteadyWrite for Broken {
+    ghost steady = { λ r s none. refl };
+}
+
 impl Interrupted {
     fn call(&mut self) -> io::Result<usize> {
         if self.done {
@@ -58,6 +71,14 @@ impl Write for Interrupted {
     fn flush(&mut self) -> io::Result<()> {
         Ok(())
     }
+}
+
+impl SteadyRead for Interrupted {
+    ghost steady = { λ r s none. refl };
+}
+
+impl SteadyWrite for Interrupted {
+    ghost steady = { λ r s none. refl };
 }
 
 #[test]
@@ -121,11 +142,92 @@ fn an_interrupted_call_is_made_again(rt: HostRuntime) {
 }
 
 #[test]
-fn a_fault_is_told_to_a_writer(rt: HostRuntime) {
-    let mut bytes = Vec::new(rt.alloc());
-    tell(rt.alloc(), &Status::Usage, &mut bytes);
+fn each_status_has_its_text_and_number(rt: HostRuntime) {
+    let table = [
+        (Status::Ok, "", 0),
+        (Status::Usage, "worldrun: usage: play or gen\n", 2),
+        (Status::ReadFault, "worldrun: read fault\n", 4),
+        (Status::WriteFault, "worldrun: write fault\n", 5),
+        (Status::Memory, "worldrun: memory\n", 6),
+    ];
+    for (status, text, code) in table {
+        let mut bytes = Vec::new(rt.alloc());
+        let mut err = StdSink::new(&mut bytes);
+        let exit = end(rt.alloc(), &status, &mut err);
+        assert_eq!(rt; exit.told, Ok(()));
+        assert_eq!(rt; exit.code, code);
+        assert_eq!(rt; bytes.as_slice(), text.as_bytes());
+    }
+    let mut err = StdSink::new(Broken);
+    let exit = end(rt.alloc(), &Status::Usage, &mut err);
+    assert_eq!(rt; (exit.told, exit.code), (Err(PutErr::Failed), 2));
+}
+
+const SCRIPT: &str = "class A Object\n0 open\n0 new a A\n0 root a on\n0 close\ngc full\n";
+
+const TEXT: &str = "0 open idle\n0 new 0:1\n0 was off\n0 close\ngc full removed 0 left 0\n";
+
+#[test]
+fn a_run_over_bytes_in_memory(rt: HostRuntime) {
+    let words = vec![in rt.alloc();
+        String::from_str(rt.alloc(), "play").expect(&rt, "memory"),
+    ].expect(&rt, "memory");
+    let mut written = Vec::new(rt.alloc());
+    let mut told = Vec::new(rt.alloc());
+    let mut script = StdSource::new(SCRIPT.as_bytes());
+    let out = BufWriter::new(rt.alloc(), &mut written).expect(&rt, "memory");
+    let mut out = StdSink::new(out);
+    let mut err = StdSink::new(&mut told);
+    let finished = program(
+        &rt,
+        rt.alloc(),
+        words.as_slice(),
+        &mut script,
+        &mut out,
+        &mut err,
+    );
+    assert_eq!(rt; (finished.exit.code, finished.lines), (0, 5));
+    drop(out);
+    assert_eq!(rt; written.as_slice(), TEXT.as_bytes());
+    assert!(rt; told.as_slice().is_empty());
+}
+
+#[test]
+fn runs_over_what_fails(rt: HostRuntime) {
+    let words = vec![in rt.alloc();
+        String::from_str(rt.alloc(), "play").expect(&rt, "memory"),
+    ].expect(&rt, "memory");
+    let mut told = Vec::new(rt.alloc());
+    let mut err = StdSink::new(&mut told);
+    let mut script = StdSource::new(SCRIPT.as_bytes());
+    let out = BufWriter::new(rt.alloc(), Broken).expect(&rt, "memory");
+    let mut out = StdSink::new(out);
+    let finished = program(
+        &rt,
+        rt.alloc(),
+        words.as_slice(),
+        &mut script,
+        &mut out,
+        &mut err,
+    );
+    assert_eq!(rt; (finished.exit.code, out.faults), (5, 1));
+    let mut script = StdSource::new(Broken);
+    let mut written = Vec::new(rt.alloc());
+    let out = BufWriter::new(rt.alloc(), &mut written).expect(&rt, "memory");
+    let mut out = StdSink::new(out);
+    let finished = program(
+        &rt,
+        rt.alloc(),
+        words.as_slice(),
+        &mut script,
+        &mut out,
+        &mut err,
+    );
+    assert_eq!(rt; (finished.exit.code, script.faults), (4, 1));
+    drop(out);
+    assert!(rt; written.as_slice().is_empty());
     assert_eq!(rt;
-        bytes.as_slice(),
-        b"worldrun: usage: play or gen\n".as_slice()
+        told.as_slice(),
+        b"worldrun: write fault\nworldrun: read fault\n".as_slice()
     );
 }

@@ -1,0 +1,10 @@
+use Rattle.std.proofs.Common.{◌≡◌, length}
+use Rattle.std.specs.Io.KnownBytes.{Keeps}
+use Rattle.worldrun.proofs.std_source.read_once.Given as goal
+
+abbrev pub invariant-loop : goal.invariant-loop
+invariant-loop g l =
+    record {
+      kept : Keeps (g.R.Read.remaining l.fn.reader) (g.R.Read.remaining l.reader);
+      room : length l.buf ≡ length l.fn.buf;
+    }
