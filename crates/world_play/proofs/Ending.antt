@@ -1,5 +1,5 @@
 -- What an input that was read says of the whole of it.
-use Rattle.std.proofs.Common.{◌≡◌, ◌↔◌, ℕ, Bool, true, false, ◌&&◌, List, [], ◌∷◌, ◌++◌, length, take, drop, ◌⊎◌, inl, inr, refl, sym, ap, subst, ◌∙◌, Option, Some, None, Result, Ok, Err, arith}
+use Rattle.std.proofs.Common.{◌≡◌, ℕ, Bool, true, false, ◌&&◌, List, [], ◌∷◌, ◌++◌, length, take, drop, ◌⊎◌, inl, inr, refl, sym, ap, subst, ◌∙◌, Option, Some, None, Result, Ok, Err, arith}
 use Rattle.std.proofs.lemmas.Bool.Decides.{nat_tests}
 use Rattle.std.proofs.lemmas.List.{length-take, take_all, drop_all}
 use Rattle.std.specs.Prelude.{nat_lt, slice_index, slice_index_or, IfSome, option_map}
@@ -34,7 +34,7 @@ use Rattle.level_script.specs.Frames.{are_framed, IsPlayable}
 use Rattle.world_model.proofs.ListFacts.{and_true}
 use Rattle.world_play.specs.Laws.{HasClass, OneText}
 use Rattle.world_play.specs.Turns.{Stops, Played, Stopped}
-use Rattle.world_play.specs.Ends.{header_of, limits_in, history_of, IsScript, HasFault, WasTaken, Refuses, WritesFault, HasRun, WasPlayed, OnDone, OnStopped, IsUnbroken, IsInput, NamesFault, EndsWell, EndsEarly, WritesOutcome, CountsLines, TellsScript}
+use Rattle.world_play.specs.Ends.{header_of, limits_in, history_of, IsScript, HasFault, WasTaken, Refuses, WritesFault, HasRun, WasPlayed, OnDone, OnStopped, IsInput, NamesExactly, NamesFault, EndsWell, EndsEarly, WritesOutcome, CountsLines, TellsScript}
 use Rattle.world_play.specs.declared.status.Status.{Status}
 use Rattle.world_play.specs.declared.status.Status.TheVariants as status
 use Rattle.world_play.specs.declared.run.Run.{Run}
@@ -279,7 +279,7 @@ input_fault input bytes limits (inr same) = ap (λ (xs : List ℕ). fault_of xs 
 pub names_of_script : (name : ShapeName) (how : Status) (left : Option (List ℕ)) (script : Script) (before now : ℕ) → IsScript (limits_in name) left script → WritesFault before now how → NamesFault name left how
 names_of_script name how left script before now is h = record { has = λ fault said. absurd (subst (WritesFault before now) said h); exactly = exactly left is }
   where
-    exactly : (left : Option (List ℕ)) → IsScript (limits_in name) left script → IfSome left (λ input. (bytes : List ℕ) (fault : ScriptErr) → IsInput input bytes → (how ≡ status.Script fault) ↔ (IsUnbroken how × (fault_of bytes (limits_in name) ≡ Some fault)))
+    exactly : (left : Option (List ℕ)) → IsScript (limits_in name) left script → IfSome left (NamesExactly name how)
     exactly None is = tt
     exactly (Some input) is = λ bytes fault same. (
       (λ said. absurd (subst (WritesFault before now) said h)),
@@ -298,7 +298,7 @@ names_unread name limits how left rest before now are h = record { has = has how
     has status.WriteFault h fault said = absurd h
     has status.Memory h fault said = absurd cc
 
-    exactly : (how : Status) (left : Option (List ℕ)) → Refuses limits left rest before now how → IfSome left (λ input. (bytes : List ℕ) (fault : ScriptErr) → IsInput input bytes → (how ≡ status.Script fault) ↔ (IsUnbroken how × (fault_of bytes (limits_in name) ≡ Some fault)))
+    exactly : (how : Status) (left : Option (List ℕ)) → Refuses limits left rest before now how → IfSome left (NamesExactly name how)
     exactly how None h = tt
     exactly status.Ok (Some input) h = absurd h
     exactly status.Usage (Some input) h = absurd h

@@ -149,10 +149,14 @@ IsUnbroken how = (how ≢ status.ReadFault) × (how ≢ status.Memory)
 abbrev pub IsInput : List ℕ → List ℕ → Type 0
 IsInput input bytes = (bytes ≡ input) ⊎ (bytes ≡ take 16777217 input)
 
--- The status is that of a fault only where there is an input that has it; and where the source tells its bytes, exactly where all of them, or their first 16,777,217, have that fault, and neither a fault of the source nor want of memory ended the run.
+-- the status is that of a fault exactly where all of the input, or its first 16,777,217 bytes, have that fault, and neither a fault of the source nor want of memory ended the run
+abbrev pub NamesExactly : ShapeName → Status → List ℕ → Type 0
+NamesExactly name how input = (bytes : List ℕ) (fault : ScriptErr) → IsInput input bytes → (how ≡ status.Script fault) ↔ (IsUnbroken how × (fault_of bytes (limits_in name) ≡ Some fault))
+
+-- The status is that of a fault only where there is an input that has it; and where the source tells its bytes, exactly where these have it.
 pub record NamesFault (name : ShapeName) (left : Option (List ℕ)) (how : Status) : Type 0 where
   pub has : (fault : ScriptErr) → how ≡ status.Script fault → HasFault (limits_in name) left fault
-  pub exactly : IfSome left (λ input. (bytes : List ℕ) (fault : ScriptErr) → IsInput input bytes → (how ≡ status.Script fault) ↔ (IsUnbroken how × (fault_of bytes (limits_in name) ≡ Some fault)))
+  pub exactly : IfSome left (NamesExactly name how)
 
 -- where the input is a script or has a fault that was told, it was taken up to its end, or to one byte past the limit
 abbrev pub SaysTaken : Option (List ℕ) → Option (List ℕ) → Status → Option Run → Type 0

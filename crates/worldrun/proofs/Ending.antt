@@ -3,7 +3,7 @@ use Rattle.std.proofs.Common.{◌≡◌, ℕ, inl, inr, List, [], ◌++◌, refl
 use Rattle.std.specs.Io.KnownBytes.{Keeps, append_known}
 use Rattle.play_io.specs.Faults.{Rose}
 use Rattle.world_play.specs.Streams.{Gains, Gained}
-use Rattle.world_play.specs.Ends.{NamesFault, SaysTaken, SaysRead, SaysWrite, HasRun, OnDone, OnStopped, OnNone, Headline, EndsEarly, WritesOutcome, Completes}
+use Rattle.world_play.specs.Ends.{NamesFault, SaysTaken, SaysRead, SaysWrite, NamesExactly, HasRun, OnDone, OnStopped, OnNone, EndsWell, EndsEarly, WritesOutcome, Completes}
 use Rattle.world_play.specs.declared.words.Words.{Words}
 use Rattle.world_play.specs.declared.words.ShapeName.{ShapeName}
 use Rattle.world_play.specs.declared.status.Status.{Status}
@@ -30,48 +30,50 @@ pub beneath : (a : Option (List ℕ)) (bs : List ℕ) → bs ≡ [] → append_k
 beneath None bs empty = refl
 beneath (Some xs) bs empty = ap (λ (l : List ℕ). Some l) (ap (λ (l : List ℕ). xs ++ l) empty ∙ append-nil xs)
 
-pub headline_kept : (w : Words) (left now had mid has : Option (List ℕ)) (r : Option Run) → Keeps mid has → Headline w left now had mid r → Headline w left now had has r
-headline_kept w None now had mid has r kept headline = tt
-headline_kept w (Some input) now had mid has None kept headline = tt
-headline_kept w (Some input) now had mid has (Some engine) kept (script, is, none_left, played) = (
-  script,
-  is,
-  none_left,
-  record {
-    pieces = played.pieces;
-    last = played.last;
-    legal = played.legal;
-    cut = played.cut;
-    plays = played.plays;
-    put = gained_kept had mid has _ kept played.put;
-  },
-)
+well_kept : (w : Words) (left now had mid has : Option (List ℕ)) (engine : Run) → Keeps mid has → EndsWell w left now had mid engine → EndsWell w left now had has engine
+well_kept w left now had mid has engine kept well = record {
+  script = well.script;
+  read = well.read;
+  all = well.all;
+  played = record {
+    pieces = well.played.pieces;
+    last = well.played.last;
+    legal = well.played.legal;
+    cut = well.played.cut;
+    plays = well.played.plays;
+    put = gained_kept had mid has _ kept well.played.put;
+  };
+}
+
+pub headline_kept : (w : Words) (left now had mid has : Option (List ℕ)) (r : Option Run) → Keeps mid has → IfSome r (EndsWell w left now had mid) → IfSome r (EndsWell w left now had has)
+headline_kept w left now had mid has None kept headline = tt
+headline_kept w left now had mid has (Some engine) kept headline = well_kept w left now had mid has engine kept headline
 
 pub early_kept : (w : Words) (left had mid has : Option (List ℕ)) (count : ℕ) (engine : Run) → Keeps mid has → EndsEarly w left had mid count engine → EndsEarly w left had has count engine
-early_kept w None had mid has count engine kept early = tt
-early_kept w (Some input) had mid has count engine kept (script, is, stopped) = (
-  script,
-  is,
-  record {
-    whole = stopped.whole;
-    rest = stopped.rest;
-    pieces = stopped.pieces;
-    part = stopped.part;
-    names = stopped.names;
-    some = stopped.some;
-    legal = stopped.legal;
-    are = stopped.are;
-    cut = stopped.cut;
-    plays = stopped.plays;
-    stops = stopped.stops;
-    put = gained_kept had mid has _ kept stopped.put;
-    number = stopped.number;
-  },
-)
+early_kept w left had mid has count engine kept early =
+    let stopped = early.stopped in
+    record {
+      script = early.script;
+      read = early.read;
+      stopped = record {
+        whole = stopped.whole;
+        rest = stopped.rest;
+        pieces = stopped.pieces;
+        part = stopped.part;
+        names = stopped.names;
+        some = stopped.some;
+        legal = stopped.legal;
+        are = stopped.are;
+        cut = stopped.cut;
+        plays = stopped.plays;
+        stops = stopped.stops;
+        put = gained_kept had mid has _ kept stopped.put;
+        number = stopped.number;
+      };
+    }
 
 pub outcome_kept : (name : ShapeName) (left had mid has : Option (List ℕ)) → Keeps mid has → WritesOutcome name left had mid → WritesOutcome name left had has
-outcome_kept name None had mid has kept outcome = tt
-outcome_kept name (Some input) had mid has kept (script, is, gained) = (script, is, gained_kept had mid has _ kept gained)
+outcome_kept name left had mid has kept outcome = record { script = outcome.script; read = outcome.read; gained = gained_kept had mid has _ kept outcome.gained }
 
 -- ---- the status
 
@@ -81,11 +83,14 @@ ends_so P ended how before now (inl same) broken holds = subst P (sym same.0) ho
 ends_so P ended how before now (inr failed) broken holds = subst P (sym failed.1) (broken (subst P failed.0 holds))
 
 pub names_broken : (name : ShapeName) (left : Option (List ℕ)) → NamesFault name left status.Ok → NamesFault name left status.WriteFault
-names_broken name None names = tt
-names_broken name (Some input) names = λ bytes fault is. (
-  λ (e : status.WriteFault ≡ status.Script fault). absurd cc,
-  λ has. absurd (let e : status.Ok ≡ status.Script fault = (names bytes fault is).1 ((λ e. cc, λ e. cc), has.1) in cc),
-)
+names_broken name left names = record { has = λ fault e. absurd cc; exactly = exactly left names.exactly }
+  where
+    exactly : (left : Option (List ℕ)) → IfSome left (NamesExactly name status.Ok) → IfSome left (NamesExactly name status.WriteFault)
+    exactly None names = tt
+    exactly (Some input) names = λ bytes fault is. (
+      λ e. absurd cc,
+      λ has. absurd (let e : status.Ok ≡ status.Script fault = (names bytes fault is).1 ((λ e. cc, λ e. cc), has.1) in cc),
+    )
 
 pub names_ended : (name : ShapeName) (left : Option (List ℕ)) (ended how : Status) (before now : ℕ) → Finishes ended how before now → NamesFault name left ended → NamesFault name left how
 names_ended name left ended how before now ends = ends_so (NamesFault name left) ended how before now ends (names_broken name left)
@@ -149,13 +154,13 @@ stopped_so P Q status.Memory None next stopped = tt
 stopped_so P Q status.Memory (Some engine) next stopped = next engine stopped
 
 pub early_ended : (w : Words) (left now had mid has : Option (List ℕ)) (count : ℕ) (r : Option Run) (ended how : Status) (before after : ℕ) → Finishes ended how before after → Keeps mid has
-    → OnStopped ended r (EndsEarly w left had mid count) → OnDone ended (Headline w left now had mid r) → OnStopped how r (Breaks w left now had has count)
+    → OnStopped ended r (EndsEarly w left had mid count) → OnDone ended (IfSome r (EndsWell w left now had mid)) → OnStopped how r (Breaks w left now had has count)
 early_ended w left now had mid has count r ended how before after (inl same) kept early headline =
     subst (λ (s : Status). OnStopped s r (Breaks w left now had has count)) (sym same.0) (stopped_so (EndsEarly w left had mid count) (Breaks w left now had has count) ended r (λ engine e. inl (early_kept w left had mid has count engine kept e)) early)
 early_ended w left now had mid has count None ended how before after (inr failed) kept early headline =
     subst (λ (s : Status). OnStopped s None (Breaks w left now had has count)) (sym failed.1) tt
 early_ended w left now had mid has count (Some engine) ended how before after (inr failed) kept early headline =
-    let well : Headline w left now had mid (Some engine) = subst (λ (s : Status). OnDone s (Headline w left now had mid (Some engine))) failed.0 headline in
+    let well : EndsWell w left now had mid engine = subst (λ (s : Status). OnDone s (EndsWell w left now had mid engine)) failed.0 headline in
     subst (λ (s : Status). OnStopped s (Some engine) (Breaks w left now had has count)) (sym failed.1) (inr (headline_kept w left now had mid has (Some engine) kept well))
 
 pub unplayed_so : {A : Type 0} (r : Option A) (P Q : Type 0) → (P → Q) → OnNone r P → OnNone r Q
@@ -173,9 +178,9 @@ some_both (Some x) P Q R next p q = next x p q
 
 -- ---- with nothing held back
 
-pub headline_beneath : (w : Words) (left now had mid below : Option (List ℕ)) (bs : List ℕ) (r : Option Run) → Keeps mid (append_known below bs) → bs ≡ [] → Headline w left now had mid r → Headline w left now had below r
+pub headline_beneath : (w : Words) (left now had mid below : Option (List ℕ)) (bs : List ℕ) (r : Option Run) → Keeps mid (append_known below bs) → bs ≡ [] → IfSome r (EndsWell w left now had mid) → IfSome r (EndsWell w left now had below)
 headline_beneath w left now had mid below bs r kept empty headline =
-    subst (λ (has : Option (List ℕ)). Headline w left now had has r) (beneath below bs empty) (headline_kept w left now had mid (append_known below bs) r kept headline)
+    subst (λ (has : Option (List ℕ)). IfSome r (EndsWell w left now had has)) (beneath below bs empty) (headline_kept w left now had mid (append_known below bs) r kept headline)
 
 pub outcome_beneath : (name : ShapeName) (left had mid below : Option (List ℕ)) (bs : List ℕ) → Keeps mid (append_known below bs) → bs ≡ [] → WritesOutcome name left had mid → WritesOutcome name left had below
 outcome_beneath name left had mid below bs kept empty outcome =

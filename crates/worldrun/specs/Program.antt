@@ -4,7 +4,7 @@ use Rattle.play_io.specs.Faults.{Rose}
 use Rattle.play_io.specs.declared.sink.PutErr.{PutErr}
 use Rattle.play_io.specs.declared.sink.PutErr.TheVariants as put
 use Rattle.world_play.specs.Streams.{Gained, GainedStart}
-use Rattle.world_play.specs.Ends.{EndsEarly, Headline}
+use Rattle.world_play.specs.Ends.{EndsEarly, EndsWell}
 use Rattle.world_play.specs.declared.words.Words.{Words}
 use Rattle.world_play.specs.declared.status.Status.{Status}
 use Rattle.world_play.specs.declared.status.Status.TheVariants as status
@@ -26,4 +26,4 @@ Tells had has before now text (Err put.Memory) = GainedSome had has text × (now
 
 -- a run ended early, or it ended well and only the last write failed
 abbrev pub Breaks : Words → Option (List ℕ) → Option (List ℕ) → Option (List ℕ) → Option (List ℕ) → ℕ → Run → Type 0
-Breaks w left now had has count engine = EndsEarly w left had has count engine ⊎ Headline w left now had has (Some engine)
+Breaks w left now had has count engine = EndsEarly w left had has count engine ⊎ EndsWell w left now had has engine

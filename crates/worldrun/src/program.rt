@@ -3,7 +3,7 @@ ghost use Rattle.std.specs.Prelude.{◌≡◌, ◌↔◌, ℕ, [], None, Some, I
 ghost use Rattle.std.specs.Io.Buffered.{writer_buffer, writer_contents, writer_inner};
 ghost use Rattle.std.specs.Io.KnownBytes.{Keeps};
 ghost use Rattle.world_play.specs.Streams.{Gained, GainedStart, PutCounts};
-ghost use Rattle.world_play.specs.Ends.{said, shape_said, HasShape, HasRun, OnDone, OnStopped, OnNone, NamesFault, SaysTaken, SaysRead, SaysWrite, Headline, WritesOutcome, CountsLines, Completes};
+ghost use Rattle.world_play.specs.Ends.{said, shape_said, HasShape, HasRun, OnDone, OnStopped, OnNone, NamesFault, SaysTaken, SaysRead, SaysWrite, EndsWell, RunKeepsPromise, WritesOutcome, CountsLines, Completes};
 ghost use Rattle.world_play.specs.Faults.{fault_text, exit_of};
 ghost use Rattle.world_play.specs.declared.status.Status.TheVariants as status;
 ghost use Rattle.worldrun.specs.Program.{Tells, Breaks};
@@ -101,7 +101,8 @@ pub fn program<R: Threads + Sync, S: Source, W: SteadyWrite + Drop, K: Sink>(
     ensures shape { IfSome (shape_said words.now) (λ shape. HasShape shape result.run) }
     ensures unplayed { OnNone result.run (Keeps (writer_contents W.contents out.old.writer) (writer_contents W.contents out.new.writer)) }
     ensures written { result.status ≡ status.Ok → writer_buffer out.new.writer ≡ [] }
-    ensures headline { IfSome (said words.now) (λ w. OnDone result.status (Headline w (S.left script.old) (S.left script.new) (writer_contents W.contents out.old.writer) (W.contents (writer_inner out.new.writer)) result.run)) }
+    ensures headline { IfSome (said words.now) (λ w. OnDone result.status (IfSome result.run (EndsWell w (S.left script.old) (S.left script.new) (writer_contents W.contents out.old.writer) (W.contents (writer_inner out.new.writer))))) }
+    ensures promise { IfSome result.run RunKeepsPromise }
     ensures outcome { IfSome (shape_said words.now) (λ shape. OnDone result.status (WritesOutcome shape (S.left script.old) (writer_contents W.contents out.old.writer) (W.contents (writer_inner out.new.writer)))) }
     ensures early { IfSome (said words.now) (λ w. OnStopped result.status result.run (Breaks w (S.left script.old) (S.left script.new) (writer_contents W.contents out.old.writer) (writer_contents W.contents out.new.writer) result.lines)) }
     ensures lines { CountsLines (writer_contents W.contents out.old.writer) (writer_contents W.contents out.new.writer) result.lines }
