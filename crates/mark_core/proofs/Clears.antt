@@ -1,9 +1,7 @@
 -- Cells of a doomed unit are emptied.
-use Rattle.std.proofs.Common.{◌≡◌, ℕ, ap, subst, sym, ◌∙◌, true, false, List, Some}
+use Rattle.std.proofs.Common.{◌≡◌, ℕ, ap, subst, sym, true, false, List, Some}
 use Rattle.mark_core.specs.Changes.{set_at, has}
-use Rattle.mark_core.specs.Machine.{UnderScan, Scan, Sizes, Core}
-use Rattle.mark_core.specs.Lawful.{Lawful}
-use Rattle.mark_core.specs.Makes.{clears}
+use Rattle.mark_core.specs.Machine.{Scan}
 use Rattle.mark_core.specs.Laws.{ClearingIsLawful}
 use Rattle.mark_core.proofs.Tools.{set_there, live_alive}
 use Rattle.mark_core.proofs.Makes.{still}

@@ -1,9 +1,9 @@
 -- When a commit exchange succeeds nothing is grey, and what is reached is marked.
 use Rattle.std.proofs.Common.{◌≡◌, ℕ, subst, true, false, List, [], ◌∷◌, Some, None}
-use Rattle.mark_core.specs.Machine.{Marking, Nowhere, Job, Sizes, Core}
-use Rattle.mark_core.specs.Lawful.{FoundNone, Lawful, AtWork, Unloaded}
+use Rattle.mark_core.specs.Machine.{Marking, Nowhere, Job, Core}
+use Rattle.mark_core.specs.Lawful.{FoundNone, AtWork, Unloaded}
 use Rattle.mark_core.specs.Reach.{graph, Refers, Walk}
-use Rattle.mark_core.specs.Laws.{Commits, CommitIsRight, CommitsAreRight}
+use Rattle.mark_core.specs.Laws.{CommitsAreRight}
 use Rattle.mark_core.proofs.Tools.{live_alive, live_marking}
 use Rattle.mark_core.proofs.Collects.{roots_marked}
 use Rattle.mark_core.proofs.Phases.{nothing_grey}

@@ -1,29 +1,34 @@
 -- A marking can end: events that lead to a commit.
-use Rattle.std.proofs.Common.{◌≡◌, ℕ, zero, suc, ◌+◌, ◌-◌, ◌*◌, ◌/◌, ◌%◌, ◌<◌, ◌≤◌, ◌==◌, ◌&&◌, nat_lt, nat_le, refl, sym, subst, ap, ◌∙◌, inl, inr, arith, rules, Bool, cond, true, false, not, is_none, List, [], ◌∷◌, ◌⊎◌, length, Option, Some, None}
+use Rattle.std.proofs.Common.{◌≡◌, ℕ, zero, suc, ◌+◌, ◌-◌, ◌*◌, ◌/◌, ◌%◌, ◌<◌, ◌≤◌, ◌==◌, ◌&&◌, nat_lt, nat_le, refl, sym, subst, ap, ◌∙◌, inl, inr, arith, rules, Bool, cond, true, false, not, List, [], ◌∷◌, ◌⊎◌, Option, Some, None}
 use Rattle.std.proofs.lemmas.Bool.{eqb-true, eq-eqb}
 use Rattle.std.proofs.lemmas.Nat.{div_below, div-add-mod'}
 use Rattle.std.proofs.Math.Nat.{mod-lt}
 use Rattle.mark_core.specs.Changes.{set_at, has, is_empty}
-use Rattle.mark_core.specs.Machine.{Phase, Marking, Actor, Lane, Marker, Collector, CellOf, StrongOf, Place, Nowhere, InRow, OnStack, UnderScan, InHand, InCollector, Scan, Job, NoJob, Roots, Look, Sizes, strong_place, root_places, words, Core, count_below, frames, same_place}
-use Rattle.mark_core.specs.Steps.{Step, FrameOpen, FrameClose, Shade, LoadCell, AddRow, TakeRow, SetDirty, ClearDirty, LoadRow, CommitExchange, LoadHead, RootBit, none_set, no_stack, looked_all, first_look, behind, marks, moves_on, finds, goes_on, starts, is_found, is_roots, found_of, marker_loads, finds_root, rests, roots_done, is_zero_word, next_word, looks, commits_by, MarkerMay, CollectorMay, Allowed, AllAllowed, after_marker, after_collector, after_step, run}
+use Rattle.mark_core.specs.Machine.{Marking, Gathering, Actor, Lane, Marker, Collector, CellOf, StrongOf, Place, Nowhere, InRow, OnStack, UnderScan, InHand, InCollector, Scan, Job, NoJob, Roots, Look, Sizes, strong_place, root_places, words, Core, count_below, frames, same_place}
+use Rattle.mark_core.specs.Steps.{Step, FrameOpen, FrameClose, Shade, LoadCell, AddRow, TakeRow, SetDirty, ClearDirty, LoadRow, CommitExchange, LoadHead, DoomHead, Settle, RootBit, IsFree, LaneMay, after_lane, none_set, no_stack, looked_all, behind, marks, moves_on, finds, goes_on, starts, is_roots, found_of, marker_loads, finds_root, rests, roots_done, is_zero_word, next_word, looks, commits_by, MarkerMay, CollectorMay, Allowed, after_marker, after_step}
 use Rattle.mark_core.specs.Lawful.{Lawful, AtWork, FoundNone}
 use Rattle.mark_core.specs.Laws.{Commits}
-use Rattle.mark_core.specs.GoesOn.{LooksInRange, GoesOn, LeadsToCommit, MarkingsCanEnd}
-use Rattle.mark_core.proofs.Tools.{at_set, set_here, set_there, same_or_not, true_or_false, not_false, not_is_false, some_same, count-less, in_or_beyond, or_left, live_alive, same_place_true}
-use Rattle.mark_core.proofs.Ranges.{grey_in, live_in}
+use Rattle.mark_core.specs.GoesOn.{LooksInRange, GoesOn, LeadsTo, MarkingsCanEnd, IsIdle, GatheringsCanEnd}
+use Rattle.mark_core.proofs.Tools.{at_set, set_here, same_or_not, not_false, count-less, in_or_beyond, or_left, and_true, not_true, live_alive, same_place_true}
+use Rattle.mark_core.proofs.Ranges.{alive_in, grey_in, live_in}
 use Rattle.mark_core.proofs.Scans.{scans_open}
 use Rattle.mark_core.proofs.Shades.{marker_shades}
-use Rattle.mark_core.proofs.Phases.{lane_closed}
 use Rattle.mark_core.proofs.Steps.{step_lawful, moves_only, finds_only, head_only}
 use Rattle.mark_core.proofs.Collects.{none_set_is, look_stopped}
-use Rattle.mark_core.proofs.Stuck.{marker_goes, rests_go}
-use Rattle.mark_core.proofs.Sums.{count_one}
+use Rattle.mark_core.proofs.Stuck.{lane_goes, marker_goes, rests_go}
+use Rattle.mark_core.proofs.Sums.{sum_below, sum_less, count_one}
 use Rattle.mark_core.proofs.Weights.{weight, goes_less, found_less, marks_le, starts_less, takes_less}
 
 -- ---- one event more in front
 
-pub more : (z : Sizes) (c : Core) (a : Actor) (e : Step) → Allowed z c a e → LeadsToCommit z (after_step z c a e) → LeadsToCommit z c
-more z c a e may l = record { events = (a, e) ∷ l.events; allowed = (may, l.allowed); commits = l.commits }
+abbrev LeadsToCommit : Sizes → Core → Type 0
+LeadsToCommit z c = LeadsTo (Commits z) z c
+
+more_to : (Goal : Core → Type 0) (z : Sizes) (c : Core) (a : Actor) (e : Step) → Allowed z c a e → LeadsTo Goal z (after_step z c a e) → LeadsTo Goal z c
+more_to Goal z c a e may l = record { events = (a, e) ∷ l.events; allowed = (may, l.allowed); there = l.there }
+
+more : (z : Sizes) (c : Core) (a : Actor) (e : Step) → Allowed z c a e → LeadsToCommit z (after_step z c a e) → LeadsToCommit z c
+more z c a e may l = more_to (Commits z) z c a e may l
 
 -- a machine that marks, with no lane's frame open
 record Marks (z : Sizes) (c : Core) : Type 0 where
@@ -150,11 +155,19 @@ ends_now z c q shut = more z c Collector ClearDirty (q.job, q.marks.marking) (lo
     clean = record c { dirty = false }
 
     last : LeadsToCommit z (record c { dirty = false; job = looked_all z })
-    last = record { events = []; allowed = tt; commits = record { may = refl; no_frame = no_frames; clean = refl } }
+    last = record { events = []; allowed = tt; there = record { may = refl; no_frame = no_frames; clean = refl } }
 
     look_first : (b : Bool) → nat_lt 0 (words z) ≡ b → LeadsToCommit z (record c { dirty = false; job = cond b (Look 0 0) (looked_all z) })
     look_first true e = look_on z (record c { dirty = false }) (λ r w off. absurd (let on = zero_words r w in cc)) last 0 0 (inl (omega arith, search rules))
     look_first false e = last
+
+-- one more is closed
+shut_from : (f : ℕ → Bool) (k : ℕ) → ((m : ℕ) → suc k ≤ m → f m ≡ false) → f k ≡ false → (m : ℕ) → k ≤ m → f m ≡ false
+shut_from f k far off m le = pick (same_or_not m k)
+  where
+    pick : (m ≡ k) ⊎ (m ≡ k → ⊥) → f m ≡ false
+    pick (inl e) = ap f e ∙ off
+    pick (inr n) = far m (omega (arith, n))
 
 -- markers from k on are closed
 closing : (z : Sizes) (k : ℕ) (c : Core) → k ≤ z.markers → Quiet z c → ((m : ℕ) → k ≤ m → c.marker_open m ≡ false) → LeadsToCommit z c
@@ -171,23 +184,16 @@ closing z (suc k) c le q shut = go (c.marker_open k) (c.marker_owes k) refl refl
     empty : (d : Core) → Quiet z d → no_stack z d.place k ≡ true
     empty d p = none_set_from (λ u. same_place (d.place u) (OnStack k)) z.units (λ u. nowhere_stack (d.place u) k (p.places u))
 
-    next_shut : (d : Core) → ((m : ℕ) → suc k ≤ m → d.marker_open m ≡ false) → d.marker_open k ≡ false → (m : ℕ) → k ≤ m → d.marker_open m ≡ false
-    next_shut d far off m le_m = pick (same_or_not m k)
-      where
-        pick : (m ≡ k) ⊎ (m ≡ k → ⊥) → d.marker_open m ≡ false
-        pick (inl e) = ap d.marker_open e ∙ off
-        pick (inr n) = far m (omega (arith, n))
-
     close : (d : Core) → Quiet z d → d.marker_open k ≡ true → d.marker_owes k ≡ false → ((m : ℕ) → suc k ≤ m → d.marker_open m ≡ false) → ((e : Core) → k ≤ z.markers → Quiet z e → ((m : ℕ) → k ≤ m → e.marker_open m ≡ false) → LeadsToCommit z e) → LeadsToCommit z d
     close d p on clear far next =
         let may : MarkerMay z d k FrameClose = (on, no_scan d p, clear, empty d p) in
         more z d (Marker k) FrameClose (omega arith, may)
         (next (record d { marker_open = set_at d.marker_open k false }) (omega arith)
         (record { marks = marker_marks z d k FrameClose (omega arith) may p.marks; job = p.job; places = p.places })
-        (next_shut (record d { marker_open = set_at d.marker_open k false }) (λ m le_m. at_set (λ b. b ≡ false) d.marker_open k false m (λ same. refl) (λ n. far m le_m)) (set_here d.marker_open k false k refl)))
+        (shut_from (set_at d.marker_open k false) k (λ m le_m. at_set (λ b. b ≡ false) d.marker_open k false m (λ same. refl) (λ n. far m le_m)) (set_here d.marker_open k false k refl)))
 
     go : (opened owes : Bool) → c.marker_open k ≡ opened → c.marker_owes k ≡ owes → ((e : Core) → k ≤ z.markers → Quiet z e → ((m : ℕ) → k ≤ m → e.marker_open m ≡ false) → LeadsToCommit z e) → LeadsToCommit z c
-    go false owes off o next = next c (omega arith) q (next_shut c shut off)
+    go false owes off o next = next c (omega arith) q (shut_from c.marker_open k shut off)
     go true false on clear next = close c q on clear shut next
     go true true on owes next =
         more z c (Marker k) SetDirty (omega arith, owes)
@@ -447,8 +453,8 @@ gather z (suc n) c p some at h less = go c.own_hand refl (find_one c.own_found z
 
 -- ---- whatever the collector is at
 
-pub markings_can_end : MarkingsCanEnd
-markings_can_end z c some marking lanes goes h = go c.job refl
+lanes_closed : (z : Sizes) (c : Core) → 0 < z.markers → c.phase ≡ Marking → ((lane : ℕ) → c.lane_open lane ≡ false) → GoesOn z c → Lawful z c → LeadsToCommit z c
+lanes_closed z c some marking lanes goes h = go c.job refl
   where
     now : Marks z c
     now = record { marking = marking; lanes = lanes; goes = goes; lawful = h }
@@ -467,7 +473,7 @@ markings_can_end z c some marking lanes goes h = go c.job refl
         fails e = more z (record c { job = looked_all z }) Collector CommitExchange refl (subst (λ (x : Bool). LeadsToCommit z (commits_by x (record c { job = looked_all z }))) (sym e) stop)
 
         pick : (a b : Bool) → (frames z c == 0) ≡ a → c.dirty ≡ b → LeadsToCommit z (record c { job = looked_all z })
-        pick true false e f = record { events = []; allowed = tt; commits = record { may = refl; no_frame = eqb-true (frames z c) 0 e; clean = f } }
+        pick true false e f = record { events = []; allowed = tt; there = record { may = refl; no_frame = eqb-true (frames z c) 0 e; clean = f } }
         pick true true e f = fails (both true false e (ap not f))
         pick false b e f = fails (both false (not b) e (ap not f))
 
@@ -477,3 +483,80 @@ markings_can_end z c some marking lanes goes h = go c.job refl
     go (Look r w) e =
         subst (λ (j : Job). LeadsToCommit z (record c { job = j })) (sym e)
         (look_on z c (λ a b off. stopped r w e) (looked (stopped r w e)) r w (subst (λ (j : Job). LooksInRange z j) e goes.looks))
+
+-- ---- lanes close their frames
+
+record Runs (z : Sizes) (c : Core) : Type 0 where
+  marking : c.phase ≡ Marking
+  goes : GoesOn z c
+  lawful : Lawful z c
+
+lane_runs : (z : Sizes) (c : Core) (l : ℕ) (e : Step) → l < z.lanes → LaneMay z c l e → (after_lane z c l e).phase ≡ c.phase → Runs z c → Runs z (after_lane z c l e)
+lane_runs z c l e lt may same h = record { marking = same ∙ h.marking; goes = lane_goes z c l e h.goes; lawful = step_lawful z c (Lane l) e (lt, may) h.lawful }
+
+-- lanes from k on are closed
+lanes_close : (z : Sizes) (k : ℕ) (c : Core) → k ≤ z.lanes → 0 < z.markers → Runs z c → ((l : ℕ) → k ≤ l → c.lane_open l ≡ false) → LeadsToCommit z c
+lanes_close z zero c le some h shut = lanes_closed z c some h.marking (λ l. shut l (omega arith)) h.goes h.lawful
+lanes_close z (suc k) c le some h shut = go (c.lane_open k) refl (λ d runs closed. lanes_close z k d (omega arith) some runs closed)
+  where
+    lt : k < z.lanes
+    lt = omega arith
+
+    close : (d : Core) → IsFree d k → Runs z d → ((l : ℕ) → suc k ≤ l → d.lane_open l ≡ false) → ((e : Core) → Runs z e → ((l : ℕ) → k ≤ l → e.lane_open l ≡ false) → LeadsToCommit z e) → LeadsToCommit z d
+    close d free runs far next =
+        more z d (Lane k) FrameClose (lt, free)
+        (next (after_lane z d k FrameClose) (lane_runs z d k FrameClose lt free refl runs)
+        (shut_from (set_at d.lane_open k false) k (λ l le_l. at_set (λ b. b ≡ false) d.lane_open k false l (λ same. refl) (λ n. far l le_l)) (set_here d.lane_open k false k refl)))
+
+    settle : (d : Core) → d.lane_open k ≡ true → d.hand k ≡ None → (owes : Bool) → d.lane_owes k ≡ owes → Runs z d → ((l : ℕ) → suc k ≤ l → d.lane_open l ≡ false) → ((e : Core) → Runs z e → ((l : ℕ) → k ≤ l → e.lane_open l ≡ false) → LeadsToCommit z e) → LeadsToCommit z d
+    settle d on empty false clear runs far next = close d (record { opened = on; hand = empty; owes = clear }) runs far next
+    settle d on empty true owes runs far next =
+        more z d (Lane k) SetDirty (lt, owes)
+        (close (after_lane z d k SetDirty) (record { opened = on; hand = empty; owes = set_here d.lane_owes k false k refl }) (lane_runs z d k SetDirty lt owes refl runs) far next)
+
+    empties : (d : Core) → d.lane_open k ≡ true → (hand : Option ℕ) → d.hand k ≡ hand → Runs z d → ((l : ℕ) → suc k ≤ l → d.lane_open l ≡ false) → ((e : Core) → Runs z e → ((l : ℕ) → k ≤ l → e.lane_open l ≡ false) → LeadsToCommit z e) → LeadsToCommit z d
+    empties d on None empty runs far next = settle d on empty (d.lane_owes k) refl runs far next
+    empties d on (Some u) has_u runs far next =
+        let may : LaneMay z d k (AddRow z.markers u) = (runs.lawful.standing.in_hand k u has_u, refl) in
+        more z d (Lane k) (AddRow z.markers u) (lt, may)
+        (settle (after_lane z d k (AddRow z.markers u)) on (set_here d.hand k None k refl) true (set_here d.lane_owes k true k refl) (lane_runs z d k (AddRow z.markers u) lt may refl runs) far next)
+
+    go : (b : Bool) → c.lane_open k ≡ b → ((e : Core) → Runs z e → ((l : ℕ) → k ≤ l → e.lane_open l ≡ false) → LeadsToCommit z e) → LeadsToCommit z c
+    go false off next = next c h (shut_from c.lane_open k shut off)
+    go true on next = empties c on (c.hand k) refl h shut next
+
+pub markings_can_end : MarkingsCanEnd
+markings_can_end z c some marking goes h = lanes_close z z.lanes c (omega arith) some (record { marking = marking; goes = goes; lawful = h }) h.open_in.lanes
+
+-- ---- units that are not marked are doomed, and the collection ends
+
+white_at : Bool → Bool → ℕ
+white_at doomed marked = cond (not doomed && not marked) 1 0
+
+abbrev whites : Sizes → Core → ℕ
+whites z c = sum_below (λ u. white_at (c.doomed u) (c.marked u)) z.units
+
+dooming : (z : Sizes) (n : ℕ) (c : Core) → c.phase ≡ Gathering → Lawful z c → whites z c < n → LeadsTo IsIdle z c
+unfolding white_at
+dooming z zero c gathering h less = absurd (omega arith)
+dooming z (suc n) c gathering h less = go (find_one (λ u. not (c.doomed u) && not (c.marked u)) z.units) (λ d. dooming z n d)
+  where
+    fewer : (u : ℕ) → c.doomed u ≡ false → c.marked u ≡ false → whites z (record c { doomed = set_at c.doomed u true }) < whites z c
+    fewer u alive white =
+        sum_less (λ v. white_at (set_at c.doomed u true v) (c.marked v)) (λ v. white_at (c.doomed v) (c.marked v)) z.units u (alive_in z c u alive h)
+        (λ v. at_set (λ d. white_at d (c.marked v) ≤ white_at (c.doomed v) (c.marked v)) c.doomed u true v (λ e. omega arith) (λ e. omega arith))
+        (let gone : white_at (set_at c.doomed u true u) (c.marked u) ≡ 0 = ap (λ (d : Bool). white_at d (c.marked u)) (set_here c.doomed u true u refl) in
+        let one : white_at (c.doomed u) (c.marked u) ≡ 1 = (λ i. white_at (alive i) (white i)) in omega arith)
+
+    go : ((u : ℕ) × ((not (c.doomed u) && not (c.marked u)) ≡ true)) ⊎ (none_set (λ u. not (c.doomed u) && not (c.marked u)) z.units ≡ true) → ((d : Core) → d.phase ≡ Gathering → Lawful z d → whites z d < n → LeadsTo IsIdle z d) → LeadsTo IsIdle z c
+    go (inl one) next =
+        let parts = and_true (not (c.doomed one.0)) (not (c.marked one.0)) one.1 in
+        let alive = not_true (c.doomed one.0) parts.0 in
+        let white = not_true (c.marked one.0) parts.1 in
+        let less_now = fewer one.0 alive white in
+        more_to IsIdle z c Collector (DoomHead one.0) (gathering, white, alive)
+        (next (record c { doomed = set_at c.doomed one.0 true }) gathering (step_lawful z c Collector (DoomHead one.0) (gathering, white, alive) h) (omega arith))
+    go (inr none) next = more_to IsIdle z c Collector Settle (gathering, none) (record { events = []; allowed = tt; there = refl })
+
+pub gatherings_can_end : GatheringsCanEnd
+gatherings_can_end z c gathering h = dooming z (suc (whites z c)) c gathering h (omega arith)

@@ -5,8 +5,8 @@ use Rattle.mark_core.specs.Changes.{set_at, has}
 use Rattle.mark_core.specs.Machine.{Marking, Nowhere, Sizes, root_places, Core}
 use Rattle.mark_core.specs.Steps.{is_live, is_found}
 use Rattle.mark_core.specs.Lawful.{Lawful}
-use Rattle.mark_core.specs.Makes.{renames, loosens}
-use Rattle.mark_core.specs.Laws.{Loosens, LooseningIsLawful}
+use Rattle.mark_core.specs.Makes.{renames}
+use Rattle.mark_core.specs.Laws.{LooseningIsLawful}
 use Rattle.mark_core.proofs.Tools.{at_set, set_here, set_there, grows_one, live_alive, live_marked, same_or_not, or_left, or_right, or_either, some_same}
 use Rattle.mark_core.proofs.Makes.{live_same}
 

@@ -2,7 +2,7 @@
 use Rattle.std.proofs.Common.{◌≡◌, ℕ, ◌≤◌, nat_le, refl, rules, true, List}
 use Rattle.mark_core.specs.Machine.{Sizes}
 use Rattle.mark_core.specs.Lawful.{Lawful}
-use Rattle.mark_core.specs.Start.{start, bare}
+use Rattle.mark_core.specs.Start.{start}
 use Rattle.mark_core.specs.Laws.{StaysLawful, BareIsLawful}
 use Rattle.mark_core.proofs.Steps.{run_lawful}
 

@@ -3,8 +3,8 @@ use Rattle.std.proofs.Common.{◌≡◌, ℕ, ◌+◌, ◌*◌, ◌<◌, ◌≤�
 use Rattle.std.proofs.Math.Nat.{mul-le-mul_right, suc-mul}
 use Rattle.std.proofs.lemmas.Bool.{eqb-true, eq-eqb}
 use Rattle.mark_core.specs.Changes.{set_at}
-use Rattle.mark_core.specs.Machine.{Phase, Idle, Marking, Gathering, Actor, Lane, Marker, Collector, CellOf, StrongOf, Place, Nowhere, InRow, OnStack, InCollector, Scan, Job, NoJob, Roots, Look, Sizes, strong_place, root_places, frames, Core, same_place}
-use Rattle.mark_core.specs.Steps.{Step, FrameOpen, FrameClose, BeginExchange, Shade, SwapCell, LoadCell, AddRow, TakeRow, SetDirty, ClearDirty, LoadRow, CommitExchange, LoadHead, DoomHead, Settle, RootBit, is_live, MayStore, found_of, is_found, behind, is_roots, no_stack, no_white, LaneMay, MarkerMay, CollectorMay, Allowed, gains, marks, goes_on, moves_on, finds, starts, marker_loads, only_scans, finds_root, after_lane, after_marker, after_collector, after_step, AllAllowed, run}
+use Rattle.mark_core.specs.Machine.{Phase, Idle, Marking, Gathering, Lane, Marker, Collector, CellOf, StrongOf, Place, Nowhere, InRow, OnStack, InCollector, Scan, Job, NoJob, Roots, Look, Sizes, strong_place, root_places, frames, Core, same_place}
+use Rattle.mark_core.specs.Steps.{Step, FrameOpen, FrameClose, BeginExchange, Shade, SwapCell, LoadCell, AddRow, TakeRow, SetDirty, ClearDirty, LoadRow, CommitExchange, LoadHead, DoomHead, Settle, RootBit, is_live, MayStore, found_of, is_found, behind, is_roots, no_stack, no_white, LaneMay, MarkerMay, CollectorMay, gains, marks, goes_on, moves_on, finds, starts, marker_loads, only_scans, finds_root, after_lane, after_marker, after_collector, after_step}
 use Rattle.mark_core.specs.Lawful.{Lawful}
 use Rattle.mark_core.specs.Laws.{StepsStayLawful, EventsStayLawful}
 use Rattle.mark_core.proofs.Tools.{set_here, same_place_true, live_alive, in_or_beyond}

@@ -1,11 +1,10 @@
 -- Each event leaves everybody something to do.
-use Rattle.std.proofs.Common.{◌≡◌, ℕ, ◌+◌, ◌<◌, ◌≤◌, ◌==◌, ◌&&◌, nat_lt, nat_le, refl, sym, ap, ◌∙◌, subst, inl, inr, arith, rules, Bool, cond, true, false, not, is_none, List, [], ◌∷◌, ◌⊎◌, Option, Some, None}
+use Rattle.std.proofs.Common.{◌≡◌, ℕ, ◌+◌, ◌<◌, ◌≤◌, ◌==◌, ◌&&◌, nat_lt, nat_le, refl, sym, ap, ◌∙◌, subst, inl, inr, arith, rules, Bool, cond, true, false, not, is_none, List, [], ◌∷◌, Option, Some, None}
 use Rattle.mark_core.specs.Changes.{set_at, is_empty}
 use Rattle.mark_core.specs.Machine.{Actor, Lane, Marker, Collector, CellOf, StrongOf, OnStack, Scan, Job, NoJob, Roots, Look, Sizes, root_places, words, Core, same_place, frames, InRow, InCollector, strong_place}
-use Rattle.mark_core.specs.Steps.{Step, FrameOpen, BeginExchange, Shade, SwapCell, LoadCell, AddRow, TakeRow, ClearDirty, LoadRow, CommitExchange, LoadHead, DoomHead, Settle, RootBit, behind, marks, goes_on, moves_on, finds, starts, is_found, marker_loads, roots_done, finds_root, none_set, is_zero_word, next_word, looks, first_look, looked_all, begins_by, commits_by, Allowed, CollectorMay, after_lane, after_marker, after_collector, after_step}
-use Rattle.mark_core.specs.Start.{start}
+use Rattle.mark_core.specs.Steps.{Step, BeginExchange, Shade, SwapCell, LoadCell, AddRow, ClearDirty, LoadRow, CommitExchange, LoadHead, DoomHead, Settle, RootBit, behind, marks, goes_on, moves_on, finds, starts, is_found, marker_loads, roots_done, finds_root, none_set, is_zero_word, next_word, looks, first_look, looked_all, begins_by, commits_by, Allowed, CollectorMay, after_lane, after_marker, after_collector, after_step}
 use Rattle.mark_core.specs.GoesOn.{LooksInRange, GoesOn, NobodyIsStuck}
-use Rattle.mark_core.proofs.Tools.{at_set, some_same, and_true}
+use Rattle.mark_core.proofs.Tools.{at_set, some_same}
 
 -- ---- scans
 
@@ -44,7 +43,7 @@ head_some c m u (Some s) h = go (is_found s.found u && c.marked u)
     go true = goes_some c m s (behind s.left) h
     go false = h
 
-lane_goes : (z : Sizes) (c : Core) (l : ℕ) (e : Step) → GoesOn z c → GoesOn z (after_lane z c l e)
+pub lane_goes : (z : Sizes) (c : Core) (l : ℕ) (e : Step) → GoesOn z c → GoesOn z (after_lane z c l e)
 lane_goes z c l (SwapCell (CellOf u k) to) h = record { scans = h.scans; roots = h.roots; looks = h.looks }
 lane_goes z c l (SwapCell (StrongOf of n) to) h = record { scans = h.scans; roots = h.roots; looks = h.looks }
 lane_goes z c l (LoadCell (CellOf u k)) h = record { scans = h.scans; roots = h.roots; looks = h.looks }

@@ -1,5 +1,5 @@
 -- Sums over the first numbers.
-use Rattle.std.proofs.Common.{◌≡◌, ℕ, zero, suc, ◌+◌, ◌<◌, ◌≤◌, refl, sym, subst, ap, ◌∙◌, inl, inr, arith, Bool, cond, true, false, ◌⊎◌}
+use Rattle.std.proofs.Common.{◌≡◌, ℕ, zero, suc, ◌+◌, ◌<◌, ◌≤◌, sym, subst, inl, inr, arith, Bool, cond, true, false, ◌⊎◌}
 use Rattle.mark_core.specs.Changes.{set_at}
 use Rattle.mark_core.specs.Machine.{count_below}
 use Rattle.mark_core.proofs.Tools.{same_or_not, set_here, set_there, count-above}

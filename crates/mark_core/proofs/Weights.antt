@@ -1,11 +1,11 @@
 -- How much is left to do for the markers, and that each of their events makes it less.
-use Rattle.std.proofs.Common.{◌≡◌, ℕ, zero, suc, ◌+◌, ◌*◌, ◌<◌, ◌≤◌, ◌/◌, ◌==◌, ◌&&◌, refl, sym, subst, ap, ◌∙◌, inl, inr, arith, Bool, cond, true, false, is_none, List, [], ◌∷◌, ◌⊎◌, length, Option, Some, None}
+use Rattle.std.proofs.Common.{◌≡◌, ℕ, suc, ◌+◌, ◌*◌, ◌<◌, ◌≤◌, ◌/◌, ◌==◌, refl, sym, subst, ap, ◌∙◌, arith, Bool, cond, true, false, is_none, List, [], ◌∷◌, length, Option, Some, None}
 use Rattle.std.proofs.lemmas.Bool.{eq-eqb}
 use Rattle.mark_core.specs.Changes.{set_at}
 use Rattle.mark_core.specs.Machine.{Place, Nowhere, InRow, OnStack, UnderScan, InHand, InCollector, Scan, Sizes, Core, same_place}
 use Rattle.mark_core.specs.Steps.{behind, marks, leaves, goes_on, starts, takes}
 use Rattle.mark_core.specs.Lawful.{Lawful}
-use Rattle.mark_core.proofs.Tools.{at_set, at_takes, set_here, set_there, same_or_not, some_same, not_false, and_both}
+use Rattle.mark_core.proofs.Tools.{at_set, at_takes, set_here, not_false, and_both}
 use Rattle.mark_core.proofs.Ranges.{grey_in}
 use Rattle.mark_core.proofs.Sums.{sum_below, sum_less, sum_le}
 

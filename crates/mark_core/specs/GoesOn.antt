@@ -1,7 +1,7 @@
 -- That a marking can end: nobody is stuck.
 use Rattle.std.specs.Prelude.{◌≡◌, ℕ, ◌+◌, ◌<◌, ◌≤◌, ⊤, Bool, false, ◌⊎◌, List, Some}
 use Rattle.mark_core.specs.Changes.{is_empty}
-use Rattle.mark_core.specs.Machine.{Marking, Actor, Scan, Job, NoJob, Roots, Look, Sizes, root_places, words, Core}
+use Rattle.mark_core.specs.Machine.{Idle, Marking, Gathering, Actor, Scan, Job, Look, Sizes, root_places, words, Core}
 use Rattle.mark_core.specs.Steps.{Step, roots_done, Allowed, AllAllowed, after_step, run}
 use Rattle.mark_core.specs.Lawful.{Lawful}
 use Rattle.mark_core.specs.Start.{start, bare}
@@ -25,12 +25,19 @@ pub record NobodyIsStuck (z : Sizes) : Type 0 where
   pub bare : (marked : ℕ → Bool) (cells : ℕ → List ℕ) → GoesOn z (bare marked cells)
   pub step : (c : Core) (a : Actor) (e : Step) → 0 < root_places z → Allowed z c a e → GoesOn z c → GoesOn z (after_step z c a e)
 
--- these events are allowed one after the other, and then a commit exchange succeeds
-pub record LeadsToCommit (z : Sizes) (c : Core) : Type 0 where
+-- these events are allowed one after the other, and lead to a machine of which this holds
+pub record LeadsTo (Goal : Core → Type 0) (z : Sizes) (c : Core) : Type 0 where
   pub events : List (Actor × Step)
   pub allowed : AllAllowed z c events
-  pub commits : Commits z (run z c events)
+  pub there : Goal (run z c events)
 
--- From every lawful machine that marks, with no lane's frame open, some events lead to a commit
+-- From every lawful machine that marks some events lead to a commit exchange that succeeds
 abbrev pub MarkingsCanEnd : Type 0
-MarkingsCanEnd = (z : Sizes) (c : Core) → 0 < z.markers → c.phase ≡ Marking → ((lane : ℕ) → c.lane_open lane ≡ false) → GoesOn z c → Lawful z c → LeadsToCommit z c
+MarkingsCanEnd = (z : Sizes) (c : Core) → 0 < z.markers → c.phase ≡ Marking → GoesOn z c → Lawful z c → LeadsTo (Commits z) z c
+
+-- and from every one that gathers, to the end of the collection
+abbrev pub IsIdle : Core → Type 0
+IsIdle c = c.phase ≡ Idle
+
+abbrev pub GatheringsCanEnd : Type 0
+GatheringsCanEnd = (z : Sizes) (c : Core) → c.phase ≡ Gathering → Lawful z c → LeadsTo IsIdle z c

@@ -1,5 +1,6 @@
 -- The words that the machine shows: gate and heads in the layouts of a heap in atomic words, cells by the units alone.
-use Rattle.std.specs.Prelude.{ℕ, ◌+◌, ◌*◌, ◌/◌, ◌^◌, zero, suc, nat_lt, Bool, ◌&&◌, not, if◌then◌else◌, Option, Some, None, is_some}
+use Rattle.std.specs.Prelude.{◌≡◌, ◌≢◌, ℕ, ◌+◌, ◌*◌, ◌/◌, ◌^◌, ◌<◌, ◌↔◌, zero, suc, nat_lt, Bool, true, false, ◌&&◌, not, if◌then◌else◌, Option, Some, None, is_some, bit_and, bit_or}
+use Rattle.std.specs.Int.{bit_at, bit_not, w64}
 use Rattle.word_layout.specs.declared.gate.Gate.{Gate}
 use Rattle.word_layout.specs.declared.head.Head.{Head}
 use Rattle.word_layout.specs.declared.head.Life.TheVariants as life
@@ -64,3 +65,22 @@ old_word z c (TakeRow row word) = row_word c.place row word
 old_word z c (LoadRow row word) = row_word c.place row word
 old_word z c (RootBit bit u on) = root_word z c (bit / 64)
 old_word z c _ = gate_word z c
+
+-- ---- laws
+
+-- a word of bits has each of them at its place, and no other
+pub record ShowsBits (f : ℕ → Bool) (n : ℕ) : Type 0 where
+  pub below : bits_word f n < 2 ^ n
+  pub each : (i : ℕ) → i < n → bit_at (bits_word f n) i ≡ bit (f i)
+  pub none : (bits_word f n ≡ 0) ↔ ((i : ℕ) → i < n → f i ≡ false)
+
+-- where one bit is set or cleared the word follows by one atomic step
+pub record FollowsBit (f g : ℕ → Bool) (k : ℕ) : Type 0 where
+  pub set : g k ≡ true → bits_word g 64 ≡ bit_or (bits_word f 64) (2 ^ k)
+  pub cleared : g k ≡ false → bits_word g 64 ≡ bit_and (bits_word f 64) (bit_not w64 (2 ^ k))
+
+abbrev pub BitsAreShown : Type 0
+BitsAreShown = (f : ℕ → Bool) (n : ℕ) → ShowsBits f n
+
+abbrev pub BitsFollow : Type 0
+BitsFollow = (f g : ℕ → Bool) (k : ℕ) → k < 64 → ((i : ℕ) → i ≢ k → g i ≡ f i) → FollowsBit f g k

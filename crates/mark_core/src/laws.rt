@@ -1,6 +1,7 @@
 //! What is true of the machine: each law is the contract of an empty function.
-ghost use Rattle.mark_core.specs.GoesOn.{NobodyIsStuck, MarkingsCanEnd};
+ghost use Rattle.mark_core.specs.GoesOn.{NobodyIsStuck, MarkingsCanEnd, GatheringsCanEnd};
 ghost use Rattle.mark_core.specs.Machine.{Sizes};
+ghost use Rattle.mark_core.specs.Words.{BitsAreShown, BitsFollow};
 ghost use Rattle.mark_core.specs.Laws.{StaysLawful, StepsStayLawful, EventsStayLawful, BareIsLawful, ScannedOnce, CommitsAreRight, ScanCloses, MakingIsLawful, ClearingIsLawful, LooseningIsLawful, FramesAreCounted};
 
 /// After every list of allowed events from the start the machine is lawful.
@@ -67,8 +68,24 @@ pub fn nobody_is_stuck()
     ensures { (z : Sizes) → NobodyIsStuck z }
 {}
 
-/// A marking can end: from every lawful machine that marks and has no lane's frame open, there are allowed
-/// events of markers and the collector that lead to a commit.
+/// A marking can end: from every lawful machine that marks there are allowed events that lead to a commit.
 pub fn markings_can_end()
     ensures { MarkingsCanEnd }
+{}
+
+/// So can a collection: from every lawful machine that gathers there are events that doom what is not marked
+/// and lead to phase Idle.
+pub fn gatherings_can_end()
+    ensures { GatheringsCanEnd }
+{}
+
+/// A word of a row or of the root set has the bit of each of its units at its place, no other, and is zero
+/// exactly where none is set.
+pub fn bits_are_shown()
+    ensures { BitsAreShown }
+{}
+
+/// Where one bit is set or cleared, the word is what a single atomic step on that bit makes of it.
+pub fn bits_follow()
+    ensures { BitsFollow }
 {}

@@ -34,9 +34,10 @@ mod types;
 mod words;
 
 pub use laws::{
-    bare_is_lawful, clearing_is_lawful, commits_are_right, events_stay_lawful, frames_are_counted,
-    loosening_is_lawful, making_is_lawful, markings_can_end, nobody_is_stuck, scan_closes,
-    scanned_once, stays_lawful, steps_stay_lawful,
+    bare_is_lawful, bits_are_shown, bits_follow, clearing_is_lawful, commits_are_right,
+    events_stay_lawful, frames_are_counted, gatherings_can_end, loosening_is_lawful,
+    making_is_lawful, markings_can_end, nobody_is_stuck, scan_closes, scanned_once, stays_lawful,
+    steps_stay_lawful,
 };
 pub use marking::Core;
 pub use types::{Actor, Cell, Event, Job, Place, ScanAt, Shape};

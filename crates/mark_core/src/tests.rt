@@ -1,8 +1,9 @@
 //! Worked runs, and the words that events find.
 use crate::laws::{
-    bare_is_lawful, clearing_is_lawful, commits_are_right, events_stay_lawful, frames_are_counted,
-    loosening_is_lawful, making_is_lawful, markings_can_end, nobody_is_stuck, scan_closes,
-    scanned_once, stays_lawful, steps_stay_lawful,
+    bare_is_lawful, bits_are_shown, bits_follow, clearing_is_lawful, commits_are_right,
+    events_stay_lawful, frames_are_counted, gatherings_can_end, loosening_is_lawful,
+    making_is_lawful, markings_can_end, nobody_is_stuck, scan_closes, scanned_once, stays_lawful,
+    steps_stay_lawful,
 };
 use crate::marking::Core;
 use crate::scripts::{allowed, finds, found};
@@ -143,4 +144,7 @@ fn laws() {
     frames_are_counted();
     nobody_is_stuck();
     markings_can_end();
+    gatherings_can_end();
+    bits_are_shown();
+    bits_follow();
 }

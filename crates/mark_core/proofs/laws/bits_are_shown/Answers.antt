@@ -1,0 +1,5 @@
+use Rattle.mark_core.proofs.Bits.{bits_are_shown}
+use Rattle.mark_core.proofs.laws.bits_are_shown.Goals as goal
+
+pub returns : goal.returns
+returns c = bits_are_shown
