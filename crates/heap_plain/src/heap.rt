@@ -7,7 +7,9 @@ ghost use Rattle.heap_plain.specs.Parts.{Holds, HoldsNothing};
 ghost use Rattle.world_model.specs.Calls.{Appends};
 ghost use Rattle.world_model.specs.Engines.{KeepsHeld};
 
-use crate::creating::{answer, classify, decide, fill_popped, fill_rows, link, place, refuse};
+use crate::creating::{
+    answer, begin_unit, classify, decide, fill_popped, fill_rows, link, place, refuse,
+};
 use crate::filled::{copy, fill, filled};
 use crate::frames::count_open;
 use crate::life::Life;
@@ -236,8 +238,7 @@ impl<S: Shape> Engine<S> for PlainHeap<S> {
         fill_popped(&mut self.lives, &self.free, top, asked, Life::Live);
         link(&mut self.next, &self.free, top, asked);
         fill_popped(&mut self.garbage, &self.free, top, asked, false);
-        self.sizes[head as usize] = asked as u32;
-        self.marked[head as usize] = true;
+        begin_unit(&mut self.sizes, &mut self.marked, head, asked as u32);
         self.spare[lane as usize] = spare - asked as u32;
         self.made[lane as usize] = made + asked as u64;
         self.diary.make(Pass::Lane(lane), kinds, made + 1);

@@ -104,19 +104,17 @@ fill_popped-requires-3 g c =
           (c.QUOTA.ensures ∙ g.S.Shape.constants.quota) c.self.invariant.shows.garbage.len c.deref-9.ensures.value c.in_default.ensures.1;
     }
 
-pub index_mut-requires : goal.index_mut-requires
-index_mut-requires g c =
+pub begin_unit-requires : goal.begin_unit-requires
+begin_unit-requires g c =
     let frame = rw (← c.self.view_is) at c.requires.frame in
+    let units = c.self.invariant.shows.units in
     let stack = pops c.self.invariant.shows.free _ _ _ _ _ _ frame.in_range c.index-spare.ensures
-    (c.QUOTA.ensures ∙ g.S.Shape.constants.quota) c.self.invariant.shows.units.sizes_len c.deref.ensures.value c.in_default.ensures.1 in
-    omega (arith, stack.places 0 c.requires.some, c.popped-head.ensures, c.self.inside.sizes.ok.0)
-
-pub index_mut-requires-2 : goal.index_mut-requires-2
-index_mut-requires-2 g c =
-    let frame = rw (← c.self.view_is) at c.requires.frame in
-    let stack = pops c.self.invariant.shows.free _ _ _ _ _ _ frame.in_range c.index-spare.ensures
-    (c.QUOTA.ensures ∙ g.S.Shape.constants.quota) c.self.invariant.shows.work.marked_len c.deref.ensures.value c.in_default.ensures.1 in
-    omega (arith, stack.places 0 c.requires.some, c.popped-head.ensures, c.self.inside.marked.ok.0)
+    (c.QUOTA.ensures ∙ g.S.Shape.constants.quota) units.sizes_len c.deref.ensures.value c.in_default.ensures.1 in
+    let below = stack.places 0 c.requires.some in
+    record {
+      size = omega (arith, below, c.popped-head.ensures);
+      mark = omega (arith, below, c.popped-head.ensures, units.sizes_len, c.self.invariant.shows.work.marked_len);
+    }
 
 pub answer-requires-clause-room : goal.answer-requires-clause-room
 answer-requires-clause-room g c =
@@ -185,7 +183,7 @@ creation g c =
 pub invariant_of-self-2 : goal.invariant_of-self-2
 invariant_of-self-2 g c =
     let now = spare_read c.self.invariant.shows.free _ _ (creation g c).lane c.index-spare.ensures in
-    rw (c.make.ensures, c.popped-head.ensures, c.deref.ensures.value, c.QUOTA.ensures, g.S.Shape.constants.quota, now) (creates (creation g c))
+    rw (c.make.ensures, c.begin_unit.ensures.size, c.begin_unit.ensures.mark, c.popped-head.ensures, c.deref.ensures.value, c.QUOTA.ensures, g.S.Shape.constants.quota, now) (creates (creation g c))
 
 pub returns-clause-entries : goal.returns-clause-entries
 returns-clause-entries g c = rw (← c.self.view_is, ← (creation g c).is) (appends_one _ _ _ _ _ refl c.make.ensures (invariant_of-self-2 g c).legal)
