@@ -1,11 +1,12 @@
 -- A unit is taken apart by one call.
 use Rattle.std.proofs.Common.{◌≡◌, ◌≢◌, ℕ, ◌-◌, ◌<◌, ◌≤◌, suc, refl, sym, subst, ap, ◌∙◌, inr, arith, true, List, [], ◌∷◌, ◌++◌, map, length, append_assoc, append-nil, get_or, Option, Some, IsSome, is_some}
 use Rattle.std.proofs.Math.ListN.{set}
+use Rattle.std.proofs.lemmas.List.{map-append}
 use Rattle.std.proofs.Math.Logic.{dite}
 use Rattle.std.proofs.Math.Decide.{ℕ_discrete, dec_le}
 use Rattle.std.proofs.Math.Nat.{lt_of_not-le}
 use Rattle.world_model.specs.Sizes.{Sizes, item_count}
-use Rattle.world_model.specs.NameLists.{has, ends_with, but_last}
+use Rattle.world_model.specs.NameLists.{has, set_at, ends_with, but_last}
 use Rattle.world_model.specs.World.{is_open, unit_of}
 use Rattle.world_model.specs.State.{State, Frame}
 use Rattle.world_model.specs.Next.{next}
@@ -17,7 +18,7 @@ use Rattle.world_model.proofs.Joins.{histories_join, by-append}
 use Rattle.world_model.proofs.Inductions.{one_more}
 use Rattle.world_model.proofs.Loosening.{ends_some}
 use Rattle.world_model.proofs.Dissolving.{none_loosened}
-use Rattle.world_model.proofs.Answering.{IsMidway, starts_midway, last_of, leaves, midway1, known1, ready_closes}
+use Rattle.world_model.proofs.Answering.{IsMidway, starts_midway, last_of, leaves, midway1, ready_closes}
 use Rattle.heap_plain.specs.Types.{Name, Ref, Lane, Marking, Entry}
 use Rattle.heap_plain.specs.Types.act
 use Rattle.heap_plain.specs.declared.life.Life.{Life}
@@ -30,11 +31,11 @@ use Rattle.heap_plain.specs.Parting.{IsParting, mended}
 use Rattle.heap_plain.proofs.WorldFacts.{at_set, set_at_other}
 use Rattle.heap_plain.proofs.Fillings.{from_start}
 use Rattle.heap_plain.proofs.Entries.{plain_more, holds_more}
-use Rattle.heap_plain.proofs.Refusals.{held_same, keeps_held}
-use Rattle.heap_plain.proofs.Listings.{linked_named, length-chain}
+use Rattle.heap_plain.proofs.Refusals.{keeps_held, said_shows}
+use Rattle.heap_plain.proofs.Quiet.{quiet_shows, framed, framed_shows}
+use Rattle.heap_plain.proofs.Listings.{linked_named, linked_member, length-chain}
 use Rattle.heap_plain.proofs.Gathering.{distinct_unit, few_named}
 use Rattle.heap_plain.proofs.Standing.{member_at, name_below}
-use Rattle.heap_plain.proofs.MarkSlices.{linked_member}
 use Rattle.heap_plain.proofs.PartSteps.{named_last, front_size, units_left, distinct_left, gone_left, free_left, stands_front}
 use Rattle.heap_plain.proofs.RootSteps as root
 
@@ -129,7 +130,6 @@ module _ (z : Sizes) (p : Parts) (h : List Entry) (l : ℕ) (at : Ref) (was : Is
           front = u;
           stands = stands;
           midway = subst (λ (v : List Name). IsMidway z (state_of h) l (unit_of (after h) at.name) v) unit_is (starts_midway z h l at.name was.legal lane ask (λ e. unmarked (s.phase ∙ e)));
-          none = λ e. none_loosened z h was.legal l e;
           counted = stands.size ∙ ap (λ (v : List Name). length v) (sym unit_is);
           size = stands.size;
           room = omega (arith, room, listed.len, s.work.work_len);
@@ -162,41 +162,19 @@ module _ (z : Sizes) (p : Parts) (h : List Entry) (l : ℕ) (at : Ref) (was : Is
     },
     tt,
   )
-      (record {
-        phase = s.phase;
-        frames = s.frames;
-        names = s.names;
-        units = s.units;
-        distinct = s.distinct;
-        roots = s.roots;
-        held = held_same p.names p.lives _ _ l s.held;
-        work = s.work;
-        idle = s.idle;
-        marks = s.marks;
-        roots_marked = s.roots_marked;
-        kinds = s.kinds;
-        cells = s.cells;
-        black = s.black;
-        removed = s.removed;
-        gone = s.gone;
-        order = s.order;
-        gathers = s.gathers;
-        queue = s.queue;
-        free = s.free;
-        none_agreed = s.none_agreed;
-        none_asked = s.none_asked;
-        no_steps = s.no_steps;
-        garbage = s.garbage;
-      })
+      (said_shows z p (state_of h) l _ _ _ s.none_agreed refl s.no_steps s)
 
   pub refused_held : (k : ℕ) (r : Ref) → Holds record { history = h; names = p.names } k r → Holds record { history = h ++ refused_entry ∷ []; names = p.names } k r
   refused_held k r = holds_more h (refused_entry ∷ []) p.names k r (keeps_held (state_of h).frames l k r.name)
 
 -- ---- one member
 
+-- a part that an entry leaves in the frame of its lane
+kept : {A : Type 0} (part : Frame → A) (frames : ℕ → Frame) (lane j : ℕ) (f : Frame) → part f ≡ part (frames lane) → part (set_at frames lane f j) ≡ part (frames j)
+kept part frames lane j f e = at_set (λ (g : Frame). part g ≡ part (frames j)) frames lane j f (λ same. e ∙ ap (λ (x : ℕ). part (frames x)) (sym same)) (λ ne. refl)
+
 leaving_more : (lane : ℕ) (of : List Name) (n : Name) → by (Lane lane) (map act.Loose (of ++ n ∷ [])) ≡ by (Lane lane) (map act.Loose of) ++ record { pass = Lane lane; act = act.Loose n } ∷ []
-leaving_more lane [] n = refl
-leaving_more lane (m ∷ of) n = ap (λ (es : List Entry). record { pass = Lane lane; act = act.Loose m } ∷ es) (leaving_more lane of n)
+leaving_more lane of n = ap (by (Lane lane)) (map-append act.Loose of (n ∷ [])) ∙ by-append (Lane lane) (map act.Loose of) (act.Loose n ∷ [])
 
 module _ {z : Sizes} {old : Shown} {lane : ℕ} {at : Name} {head count left : ℕ} {p : Parts} {h : List Entry} (i : IsParting z old lane at head count left p h) where
   abbrev k : Shows z p (mended (state_of h))
@@ -217,13 +195,10 @@ module _ {z : Sizes} {old : Shown} {lane : ℕ} {at : Name} {head count left : �
   pub last_named : 1 < left → IsSome (name_at p.names gone_to)
   last_named more = ap (λ (o : Option Name). is_some o) (last_member more).1
 
-  pub last_below : 1 < left → gone_to < item_count z
-  last_below more = let r = last_member more in omega (arith, name_below p.names gone_to r.0 r.1, k.names.items)
-
   head_first : (n : Name) × (name_at p.names head ≡ Some n) × (has i.front n ≡ true)
   head_first = let m = member_at k.units head i.front i.stands in (m.0, m.1.name, m.2)
 
-  pub head_within : head < item_count z
+  head_within : head < item_count z
   head_within = let m = head_first in omega (arith, name_below p.names head m.0 m.1, k.names.items)
 
   module _ (more : 1 < left) (firsts' sizes' : List ℕ) (new : List Entry) (name : Name) (named : name_at p.names gone_to ≡ Some name) (noted : new ≡ h ++ record { pass = Lane lane; act = act.Loose name } ∷ []) (parted : firsts' ≡ set p.firsts gone_to gone_to)
@@ -252,12 +227,6 @@ module _ {z : Sizes} {old : Shown} {lane : ℕ} {at : Name} {head count left : �
     some : but_last i.front ≢ []
     some = ends_some n i.front last.1
 
-    frame_held : (j : ℕ) → ((next (state_of h) e).frames j).held ≡ ((state_of h).frames j).held
-    frame_held j = at_set (λ (f : Frame). f.held ≡ ((state_of h).frames j).held) (state_of h).frames lane j _ (λ same. ap (λ (x : ℕ). ((state_of h).frames x).held) (sym same)) (λ ne. refl)
-
-    frame_owed : (j : ℕ) → ((next (state_of h) e).frames j).owed ≡ ((state_of h).frames j).owed
-    frame_owed j = at_set (λ (f : Frame). f.owed ≡ ((state_of h).frames j).owed) (state_of h).frames lane j _ (λ same. ap (λ (x : ℕ). ((state_of h).frames x).owed) (sym same)) (λ ne. refl)
-
     abbrev q : Parts
     q = record p { firsts = firsts'; sizes = sizes' }
 
@@ -270,9 +239,9 @@ module _ {z : Sizes} {old : Shown} {lane : ℕ} {at : Name} {head count left : �
       frames = k.frames;
       names = k.names;
       units = over (λ fs zs. UnitsShow z p.names fs zs p.next p.lives (next (state_of h) e).world.units) (units_left k.names k.units i.midway.apart head i.front i.stands n last.1 next_to long some head_within);
-      distinct = distinct_left k.names k.units i.midway.apart head i.front i.stands n last.1 next_to long some head_within k.distinct;
+      distinct = distinct_left (after h).units n k.distinct;
       roots = k.roots;
-      held = held_as frame_held frame_owed (λ j. refl) k.held;
+      held = held_as (λ j. kept (λ (f : Frame). f.held) (state_of h).frames lane j _ refl) (λ j. kept (λ (f : Frame). f.owed) (state_of h).frames lane j _ refl) (λ j. refl) k.held;
       work = k.work;
       idle = k.idle;
       marks = λ m. absurd (i.unmarked m);
@@ -285,7 +254,7 @@ module _ {z : Sizes} {old : Shown} {lane : ℕ} {at : Name} {head count left : �
       order = k.order;
       gathers = k.gathers;
       queue = k.queue;
-      free = free_left k.names k.units i.midway.apart head i.front i.stands n last.1 next_to long some head_within k.free;
+      free = free_left (after h).units n k.free;
       none_agreed = k.none_agreed;
       none_asked = k.none_asked;
       no_steps = k.no_steps;
@@ -301,8 +270,7 @@ module _ {z : Sizes} {old : Shown} {lane : ℕ} {at : Name} {head count left : �
       front = but_last i.front;
       stands = subst (λ (t : State). StandsAt p.names firsts' sizes' p.next p.lives t.world.units head (but_last i.front)) (sym left_is)
           (over (λ fs zs. StandsAt p.names fs zs p.next p.lives (next (state_of h) e).world.units head (but_last i.front)) (stands_front k.names k.units i.midway.apart head i.front i.stands n last.1 next_to long some head_within));
-      midway = subst (λ (t : State). IsMidway z t lane (unit_of (after old.history) at) (but_last i.front)) (sym left_is) (midway1 z (state_of h) lane (unit_of (after old.history) at) i.front i.midway n last.1 i.none);
-      none = subst (λ (t : State). (t.frames lane).broken ≡ [] → (t.frames lane).loosened ≡ []) (sym left_is) (known1 z (state_of h) lane (unit_of (after old.history) at) i.front i.midway n last.1);
+      midway = subst (λ (t : State). IsMidway z t lane (unit_of (after old.history) at) (but_last i.front)) (sym left_is) (midway1 z (state_of h) lane (unit_of (after old.history) at) i.front i.midway n last.1 (none_loosened z h i.legal lane));
       counted = i.counted;
       size = sym (front_size k.names k.units i.midway.apart head i.front i.stands n last.1 next_to long);
       room = let r = i.room in omega arith;
@@ -312,7 +280,7 @@ module _ {z : Sizes} {old : Shown} {lane : ℕ} {at : Name} {head count left : �
       unmarked = i.unmarked;
       names = i.names;
       whole = i.whole;
-      held = λ j. ap (λ (t : State). (t.frames j).held) left_is ∙ frame_held j ∙ i.held j;
+      held = λ j. ap (λ (t : State). (t.frames j).held) left_is ∙ kept (λ (f : Frame). f.held) (state_of h).frames lane j _ refl ∙ i.held j;
       others = λ j ne. ap (λ (t : State). (t.frames j).broken) left_is ∙ ap (λ (f : Frame). f.broken) (set_at_other (state_of h).frames lane j _ ne) ∙ i.others j ne;
     }
 
@@ -335,10 +303,7 @@ module _ {z : Sizes} {old : Shown} {lane : ℕ} {at : Name} {head count left : �
         (ready_closes z (state_of h) lane (unit_of (after old.history) at) one_front.0 at i.member i.own (subst (λ (u : List Name). IsMidway z (state_of h) lane (unit_of (after old.history) at) u) one_front.1 i.midway))
 
     end_held : (j : ℕ) → ((next (state_of h) last_entry).frames j).held ≡ ((state_of h).frames j).held
-    end_held j = at_set (λ (f : Frame). f.held ≡ ((state_of h).frames j).held) (state_of h).frames lane j _ (λ same. ap (λ (x : ℕ). ((state_of h).frames x).held) (sym same)) (λ ne. refl)
-
-    end_owed : (j : ℕ) → ((next (state_of h) last_entry).frames j).owed ≡ ((state_of h).frames j).owed
-    end_owed j = at_set (λ (f : Frame). f.owed ≡ ((state_of h).frames j).owed) (state_of h).frames lane j _ (λ same. sym i.midway.none_owed ∙ ap (λ (x : ℕ). ((state_of h).frames x).owed) (sym same)) (λ ne. refl)
+    end_held j = kept (λ (f : Frame). f.held) (state_of h).frames lane j _ refl
 
     end_whole : (j : ℕ) → ((next (state_of h) last_entry).frames j).broken ≡ []
     end_whole j = dite (ℕ_discrete j lane)
@@ -348,32 +313,9 @@ module _ {z : Sizes} {old : Shown} {lane : ℕ} {at : Name} {head count left : �
     pub ends_plain : IsPlain z p (h ++ last_entry ∷ [])
     ends_plain = record {
       legal = (histories_join.one_more z h last_entry).1 (i.legal, may_close);
-      shows = subst (λ (t : State). Shows z p t) (sym (one_more h last_entry)) (record {
-        phase = k.phase;
-        frames = k.frames;
-        names = k.names;
-        units = k.units;
-        distinct = k.distinct;
-        roots = k.roots;
-        held = held_as end_held end_owed end_whole k.held;
-        work = k.work;
-        idle = k.idle;
-        marks = k.marks;
-        roots_marked = k.roots_marked;
-        kinds = k.kinds;
-        cells = k.cells;
-        black = k.black;
-        removed = k.removed;
-        gone = k.gone;
-        order = k.order;
-        gathers = k.gathers;
-        queue = k.queue;
-        free = k.free;
-        none_agreed = k.none_agreed;
-        none_asked = k.none_asked;
-        no_steps = k.no_steps;
-        garbage = k.garbage;
-      });
+      shows = subst (λ (t : State). Shows z p t) (sym (one_more h last_entry))
+          (quiet_shows z p (framed (state_of h) _) _ _ _ k.none_agreed refl k.no_steps
+          (framed_shows z p (mended (state_of h)) _ (held_as end_held (λ j. kept (λ (f : Frame). f.owed) (state_of h).frames lane j _ (sym i.midway.none_owed)) end_whole k.held) k));
     }
 
     pub ends_appends : Appends z old.history (h ++ last_entry ∷ []) (Lane lane) (act.Dissolve at count)

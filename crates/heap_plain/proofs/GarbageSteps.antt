@@ -1,5 +1,5 @@
 -- Marking objects as garbage, and telling whether they are valid.
-use Rattle.std.proofs.Common.{◌≡◌, ◌≢◌, ℕ, ◌<◌, refl, sym, subst, ap, ◌∙◌, arith, Bool, cond, true, false, not, List, [], ◌∷◌, ◌++◌, get_or, Option, Some}
+use Rattle.std.proofs.Common.{◌≡◌, ◌≢◌, ℕ, ◌<◌, refl, sym, subst, ap, ◌∙◌, arith, Bool, true, false, not, List, [], ◌∷◌, ◌++◌, get_or, Option, Some}
 use Rattle.std.proofs.Math.ListN.{set}
 use Rattle.std.proofs.Math.Logic.{dite}
 use Rattle.std.proofs.Math.Decide.{ℕ_discrete}
@@ -8,15 +8,16 @@ use Rattle.world_model.specs.Sizes.{Sizes, item_count}
 use Rattle.world_model.specs.NameLists.{same_name, set_name}
 use Rattle.world_model.specs.World.{is_open}
 use Rattle.world_model.specs.Histories.{after, state_of}
-use Rattle.world_model.proofs.NameFacts.{same_name_true, same_name_refl}
+use Rattle.world_model.proofs.NameFacts.{same_name_refl}
 use Rattle.heap_plain.specs.Types.{Name, Ref, Kind, Lane, Entry}
 use Rattle.heap_plain.specs.Types.act
 use Rattle.heap_plain.specs.declared.life.Life.{Life}
 use Rattle.heap_plain.specs.Parts.{Parts, Holds, name_at}
 use Rattle.heap_plain.specs.Sections.{LivesAt, NamesShow, GarbageShow}
 use Rattle.heap_plain.specs.Plain.{Shows, IsPlain}
+use Rattle.heap_plain.proofs.WorldFacts.{differs}
 use Rattle.heap_plain.proofs.Entries.{plain_more, holds_more}
-use Rattle.heap_plain.proofs.Refusals.{held_same, keeps_held}
+use Rattle.heap_plain.proofs.Refusals.{held_same, keeps_held, said_shows}
 use Rattle.heap_plain.proofs.RootSteps as root
 
 -- where no more objects live than before
@@ -41,11 +42,7 @@ garbage_set {z} {names} {lives} {bits = bits} {garbage} i n ns below here g = re
     own m is = let t : same_name m n ≡ true = subst (λ (x : Name). same_name x n ≡ true) (sym is) (same_name_refl n) in rw t refl
 
     other : (m : Name) → m ≢ n → set_name garbage n true m ≡ garbage m
-    other m ne = go (same_name m n) refl
-      where
-        go : (b : Bool) → same_name m n ≡ b → cond b true (garbage m) ≡ garbage m
-        go true e = absurd (ne (same_name_true m n e))
-        go false e = refl
+    other m ne = let t = differs m n ne in rw t refl
 
 module _ (z : Sizes) (p : Parts) (h : List Entry) (l : ℕ) (at : Ref) (was : IsPlain z p h) (lane : l < z.lanes) (opened : is_open (after h) (Lane l) ≡ true) (held : Holds record { history = h; names = p.names } l at) where
   abbrev s : Shows z p (state_of h)
@@ -117,32 +114,7 @@ module _ (z : Sizes) (p : Parts) (h : List Entry) (l : ℕ) (at : Ref) (was : Is
     },
     tt,
   )
-      (record {
-        phase = s.phase;
-        frames = s.frames;
-        names = s.names;
-        units = s.units;
-        distinct = s.distinct;
-        roots = s.roots;
-        held = held_same p.names p.lives _ _ l s.held;
-        work = s.work;
-        idle = s.idle;
-        marks = s.marks;
-        roots_marked = s.roots_marked;
-        kinds = s.kinds;
-        cells = s.cells;
-        black = s.black;
-        removed = s.removed;
-        gone = s.gone;
-        order = s.order;
-        gathers = s.gathers;
-        queue = s.queue;
-        free = s.free;
-        none_agreed = s.none_agreed;
-        none_asked = s.none_asked;
-        no_steps = s.no_steps;
-        garbage = s.garbage;
-      })
+      (said_shows z p (state_of h) l _ _ _ s.none_agreed refl s.no_steps s)
 
   pub tells_held : (valid : Bool) (k : ℕ) (r : Ref) → Holds record { history = h; names = p.names } k r → Holds record { history = h ++ valid_entry valid ∷ []; names = p.names } k r
   tells_held valid k r = holds_more h (valid_entry valid ∷ []) p.names k r (keeps_held (state_of h).frames l k r.name)

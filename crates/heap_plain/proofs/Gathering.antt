@@ -21,7 +21,7 @@ use Rattle.heap_plain.proofs.WorldFacts.{among_has, has_among, among_left, among
 use Rattle.heap_plain.proofs.Stacking.{length-falling}
 use Rattle.heap_plain.proofs.Standing.{name_below}
 use Rattle.heap_plain.proofs.NewNames.{among_members, members_among, distinct_append}
-use Rattle.heap_plain.proofs.Listings.{linked_named, linked_at}
+use Rattle.heap_plain.proofs.Listings.{linked_named, linked_member}
 use Rattle.heap_plain.proofs.Queueing.{named_append, named_in}
 use Rattle.heap_plain.proofs.SliceSteps.{filter_none}
 use Rattle.heap_plain.proofs.CommitSteps.{distinct_left, distinct_right, distinct_both}
@@ -223,7 +223,7 @@ module _ {z : Sizes} {names : List (Option Name)} {made : List ℕ} {kinds : ℕ
       go Removed is own =
           let r = gs.each i (ap is_gone is) in
           let t : Lies i r.0 = subst (λ (x : ℕ). Lies x r.0) (eqb-true (first_at firsts i) i own) r.1 in
-          let n = linked_at names links i r.0 t.linked k (omega (arith, t.size)) in
+          let n = linked_member names links i r.0 t.linked k (omega (arith, t.size)) in
           omega (arith, name_below names (chained links i k) n.0 n.1, ns.items, us.links_len)
       go Free is own = absurd cc
       go Live is own = absurd cc

@@ -1,6 +1,9 @@
 -- Lists of linked indexes, as they are written.
 use Rattle.std.proofs.Common.{◌≡◌, ℕ, ◌+◌, ◌<◌, ◌≤◌, refl, sym, ap, ◌∙◌, subst, inl, zero, suc, arith, add-one, Bool, cond, true, false, List, [], ◌∷◌, ◌++◌, append_assoc, append-nil, length, length-append, get_or, take, Option, Some}
 use Rattle.std.proofs.lemmas.List.{take_more, take_more_same}
+use Rattle.world_model.specs.NameLists.{same_name, has}
+use Rattle.world_model.proofs.ListFacts.{or_right}
+use Rattle.world_model.proofs.NameFacts.{same_name_refl}
 use Rattle.heap_plain.specs.Types.{Name}
 use Rattle.heap_plain.specs.declared.life.Life.{Life}
 use Rattle.heap_plain.specs.Parts.{name_at, life_at, first_at, next_at}
@@ -27,12 +30,13 @@ pub linked_named : (names : List (Option Name)) (links : List ℕ) (i : ℕ) (u 
 linked_named names links i [] h = tt
 linked_named names links i (n ∷ u) h = subst (λ (at : List ℕ). AreNamed names at (n ∷ u)) (sym (chain_next links i (length u))) (h.0, linked_named names links (next_at links i) u h.1)
 
-pub linked_at : (names : List (Option Name)) (links : List ℕ) (i : ℕ) (u : List Name) → AreLinked names links i u → (k : ℕ) → k < length u → (n : Name) × (name_at names (chained links i k) ≡ Some n)
-linked_at names links i [] h k b = absurd (omega arith)
-linked_at names links i (n ∷ u) h zero b = (n, h.0)
-linked_at names links i (n ∷ u) h (suc k) b =
-    let r = linked_at names links (next_at links i) u h.1 k (omega arith) in
-    (r.0, ap (name_at names) (chained_next links i k) ∙ r.1)
+-- a member of a unit, along its links
+pub linked_member : (names : List (Option Name)) (links : List ℕ) (i : ℕ) (u : List Name) → AreLinked names links i u → (k : ℕ) → k < length u → (n : Name) × (name_at names (chained links i k) ≡ Some n) × (has u n ≡ true)
+linked_member names links i [] h k b = absurd (omega arith)
+linked_member names links i (n ∷ u) h zero b = (n, h.0, let t = same_name_refl n in rw t refl)
+linked_member names links i (n ∷ u) h (suc k) b =
+    let r = linked_member names links (next_at links i) u h.1 k (omega arith) in
+    (r.0, ap (name_at names) (chained_next links i k) ∙ r.1, or_right (same_name r.0 n) (has u r.0) r.2)
 
 -- ---- units in a row
 

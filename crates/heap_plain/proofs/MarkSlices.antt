@@ -6,7 +6,7 @@ use Rattle.std.proofs.Math.Decide.{ℕ_discrete}
 use Rattle.std.proofs.lemmas.Bool.{and_from}
 use Rattle.std.proofs.lemmas.List.{drop-append-le, drop_all, drop_more, length-take-le, get_or-take}
 use Rattle.world_model.specs.Sizes.{Sizes, item_count}
-use Rattle.world_model.specs.NameLists.{same_name, same_pass, has}
+use Rattle.world_model.specs.NameLists.{same_pass, has}
 use Rattle.world_model.specs.World.{World, is_open}
 use Rattle.world_model.specs.State.{State, Slicing, Frame, is_grey, grey_in, grey_units, beginning}
 use Rattle.world_model.specs.Reach.{graph, Refers}
@@ -14,19 +14,19 @@ use Rattle.world_model.specs.Next.{next, run}
 use Rattle.world_model.specs.MarkerSteps.{member_count, WasWithin, MayStop}
 use Rattle.world_model.specs.Histories.{MayBy, LegalFrom, Legal, after, state_of}
 use Rattle.world_model.specs.Calls.{by, is_mark_note, Appends}
-use Rattle.world_model.proofs.ListFacts.{Among, and_true, or_right}
-use Rattle.world_model.proofs.NameFacts.{set_at_same, same_name_refl}
+use Rattle.world_model.proofs.ListFacts.{Among, and_true}
+use Rattle.world_model.proofs.NameFacts.{set_at_same}
 use Rattle.world_model.proofs.Units.{AreApart, units_apart}
 use Rattle.world_model.proofs.Joins.{legal_join, legal_split}
 use Rattle.heap_plain.specs.Types.{Name, Ref, Pass, Marker, Marking, MarkStop, Marked, Act, Entry}
 use Rattle.heap_plain.specs.Types.act
 use Rattle.heap_plain.specs.Types.stop
 use Rattle.heap_plain.specs.declared.life.Life.TheVariants.{Live}
-use Rattle.heap_plain.specs.Parts.{Parts, Shown, Holds, name_at, life_at, first_at, next_at, kind_at, target_at}
+use Rattle.heap_plain.specs.Parts.{Parts, Shown, Holds, name_at, life_at, first_at, kind_at, target_at}
 use Rattle.heap_plain.specs.Listing.{chained}
 use Rattle.heap_plain.specs.Notes.{names_at, all_set, StopsBy}
 use Rattle.heap_plain.specs.Shading.{InUnit, IsWorklist, Shades}
-use Rattle.heap_plain.specs.Sections.{Distinct, StandsAt, LivesAt, AreLinked, WorkShows, MarksShow, TargetsMarked, QueueShows, pushed_of, grey_of}
+use Rattle.heap_plain.specs.Sections.{Distinct, StandsAt, LivesAt, WorkShows, MarksShow, TargetsMarked, QueueShows, pushed_of, grey_of}
 use Rattle.heap_plain.specs.Plain.{Shows, IsPlain, as_in, Sliced, IsSlicing}
 use Rattle.heap_plain.proofs.WorldFacts.{same_pass_refl, none_out, state_more, among_left, among_right}
 use Rattle.heap_plain.proofs.Noting.{by-append, length-all_set}
@@ -35,7 +35,7 @@ use Rattle.heap_plain.proofs.BeginSteps.{set_among}
 use Rattle.heap_plain.proofs.Entries.{holds_more}
 use Rattle.heap_plain.proofs.Quiet.{quiet_shows}
 use Rattle.heap_plain.proofs.Standing.{member_at, name_below, bit_below, live_used}
-use Rattle.heap_plain.proofs.Listings.{chained_next}
+use Rattle.heap_plain.proofs.Listings.{linked_member}
 use Rattle.heap_plain.proofs.Cells.{aims_target, aims_name, cell_ref, cell_below}
 use Rattle.heap_plain.proofs.MarkSteps.{distinct_drop}
 use Rattle.heap_plain.proofs.SliceSteps.{linked_place, count_cons, filter_none, no_marker, marking_or_not, grey_empty}
@@ -81,14 +81,6 @@ module _ (z : Sizes) (p : Parts) (h : List Entry) (marker budget : ℕ) (was : I
   }
 
 -- ---- a unit is scanned
-
--- a member of a unit, along its links
-pub linked_member : (names : List (Option Name)) (links : List ℕ) (i : ℕ) (u : List Name) → AreLinked names links i u → (k : ℕ) → k < length u → (n : Name) × (name_at names (chained links i k) ≡ Some n) × (has u n ≡ true)
-linked_member names links i [] h k b = absurd (omega arith)
-linked_member names links i (n ∷ u) h zero b = (n, h.0, let t = same_name_refl n in rw t refl)
-linked_member names links i (n ∷ u) h (suc k) b =
-    let r = linked_member names links (next_at links i) u h.1 k (omega arith) in
-    (r.0, ap (name_at names) (chained_next links i k) ∙ r.1, or_right (same_name r.0 n) (has u r.0) r.2)
 
 module _ {z : Sizes} {old : Shown} {marker budget total : ℕ} {p : Parts} {history : List Entry} (i : IsSlicing z old marker budget total p history) (range : marker < z.markers) (more : p.scanned < p.pushed) where
   abbrev s : State

@@ -38,6 +38,24 @@ starts_with : (names : List (Option Name)) (links : List ℕ) (head : ℕ) (u : 
 starts_with names links head [] some h = absurd (some refl)
 starts_with names links head (n ∷ u) some h = (n, h.0, let t = same_name_refl n in rw t refl)
 
+-- ---- the members of all units stay, in their order
+
+pub distinct_left : (units : List (List Name)) (n : Name) → Distinct (members units) → Distinct (members (flat_map (parted n) units))
+distinct_left units n d = subst (λ (xs : List Name). Distinct xs) (sym (members_parted n units)) d
+
+pub free_left : {z : Sizes} {names : List (Option Name)} {lives : List Life} {free spare : List ℕ} {removals : List Removal} (units : List (List Name)) (n : Name) → FreeShows z names lives free spare units removals
+    → FreeShows z names lives free spare (flat_map (parted n) units) removals
+free_left units n f = record {
+  free_len = f.free_len;
+  spare_len = f.spare_len;
+  of_lane = f.of_lane;
+  unused = f.unused;
+  once = f.once;
+  all = f.all;
+  nameless = f.nameless;
+  count = λ lane b. let same = ap (λ (xs : List Name). count_by (λ m. m.lane == lane) xs) (members_parted n units) in omega (arith, f.count lane b);
+}
+
 -- ---- one member leaves
 
 module _ {z : Sizes} {names : List (Option Name)} {made : List ℕ} {kinds : ℕ → List Kind} {firsts sizes links : List ℕ} {lives : List Life} {units : List (List Name)} (ns : NamesShow z names made kinds) (us : UnitsShow z names firsts sizes links lives units)
@@ -63,7 +81,7 @@ module _ {z : Sizes} {names : List (Option Name)} {made : List ℕ} {kinds : ℕ
   same_place : place.0 ≡ i
   same_place = ns.alone place.0 i n place.1.name named_last
 
-  pub here : LivesAt names lives i n
+  here : LivesAt names lives i n
   here = subst (λ (j : ℕ). LivesAt names lives j n) same_place place.1
 
   first_here : first_at firsts i ≡ head
@@ -80,7 +98,7 @@ module _ {z : Sizes} {names : List (Option Name)} {made : List ℕ} {kinds : ℕ
       let name : n ≡ first.0 = cc in
       both_ways (has (but_last u) n) left_out.0 (ap (λ (m : Name). has (but_last u) m) name ∙ first.2)
 
-  pub below : i < item_count z
+  below : i < item_count z
   below = omega (arith, name_below names i n named_last, ns.items)
 
   module _ (some : but_last u ≢ []) (head_below : head < item_count z) where
@@ -240,18 +258,3 @@ module _ {z : Sizes} {names : List (Option Name)} {made : List ℕ} {kinds : ℕ
           whole = λ j m a f. l.whole j m a (sym (first_other j (not_live j a.life)) ∙ f);
           waits = l.waits;
         }
-
-    pub distinct_left : Distinct (members units) → Distinct (members (flat_map (parted n) units))
-    distinct_left d = subst (λ (xs : List Name). Distinct xs) (sym (members_parted n units)) d
-
-    pub free_left : {free spare : List ℕ} {removals : List Removal} → FreeShows z names lives free spare units removals → FreeShows z names lives free spare (flat_map (parted n) units) removals
-    free_left f = record {
-      free_len = f.free_len;
-      spare_len = f.spare_len;
-      of_lane = f.of_lane;
-      unused = f.unused;
-      once = f.once;
-      all = f.all;
-      nameless = f.nameless;
-      count = λ lane b. let same = ap (λ (xs : List Name). count_by (λ m. m.lane == lane) xs) (members_parted n units) in omega (arith, f.count lane b);
-    }

@@ -1,11 +1,11 @@
--- Entries that change nothing that the vectors show.
+-- Entries that change nothing that the vectors show, but for what lanes hold.
 use Rattle.std.proofs.Common.{◌≡◌, ◌∙◌, ℕ, sym, subst, List, Option, None}
 use Rattle.world_model.specs.Sizes.{Sizes}
 use Rattle.world_model.specs.World.{World}
-use Rattle.world_model.specs.State.{State, Slicing, Collecting}
+use Rattle.world_model.specs.State.{State, Frame, Slicing, Collecting}
 use Rattle.heap_plain.specs.Types.{Name}
 use Rattle.heap_plain.specs.Parts.{Parts}
-use Rattle.heap_plain.specs.Sections.{QueueShows}
+use Rattle.heap_plain.specs.Sections.{HeldShow, QueueShows}
 use Rattle.heap_plain.specs.Plain.{Shows}
 
 -- the state with other moments, slices and collector
@@ -43,5 +43,37 @@ quiet_shows z p s moments slices collector agreed asked steps h = record {
   none_agreed = agreed;
   none_asked = λ ne. asked ∙ h.none_asked ne;
   no_steps = steps;
+  garbage = h.garbage;
+}
+
+-- the state with other frames
+abbrev pub framed : State → (ℕ → Frame) → State
+framed s frames = record { world = s.world; marks = s.marks; frames = frames; slices = s.slices; collector = s.collector }
+
+pub framed_shows : (z : Sizes) (p : Parts) (s : State) (frames : ℕ → Frame) → HeldShow p.names p.lives s.world.opened frames → Shows z p s → Shows z p (framed s frames)
+framed_shows z p s frames held h = record {
+  phase = h.phase;
+  frames = h.frames;
+  names = h.names;
+  units = h.units;
+  distinct = h.distinct;
+  roots = h.roots;
+  held = held;
+  work = h.work;
+  idle = h.idle;
+  marks = h.marks;
+  roots_marked = h.roots_marked;
+  kinds = h.kinds;
+  cells = h.cells;
+  black = h.black;
+  removed = h.removed;
+  gone = h.gone;
+  order = h.order;
+  gathers = h.gathers;
+  queue = h.queue;
+  free = h.free;
+  none_agreed = h.none_agreed;
+  none_asked = h.none_asked;
+  no_steps = h.no_steps;
   garbage = h.garbage;
 }

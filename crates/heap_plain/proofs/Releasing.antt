@@ -27,7 +27,7 @@ use Rattle.heap_plain.proofs.Cells.{cells_less}
 use Rattle.heap_plain.proofs.WorldFacts.{has_among, among_has, among_test, test_among, no_longer}
 use Rattle.heap_plain.proofs.Fillings.{Lists-same}
 use Rattle.heap_plain.proofs.Standing.{name_below, links_same}
-use Rattle.heap_plain.proofs.Listings.{linked_at}
+use Rattle.heap_plain.proofs.Listings.{linked_member}
 use Rattle.heap_plain.proofs.CommitSteps.{count_removals}
 use Rattle.heap_plain.proofs.SliceSteps.{count_cons}
 use Rattle.heap_plain.proofs.SweepSteps.{distinct_different, name_among, among_name}
@@ -269,7 +269,7 @@ module _ (z : Sizes) (p : Parts) (s : State) (k : Shows z p (calm s)) (idle : p.
 
   pub release_chain : (j : ℕ) → j < get_or p.sizes head 0 → chained p.next head j < length p.next
   release_chain j b =
-      let m = linked_at p.names p.next head u lies.linked j (omega (arith, size_is)) in
+      let m = linked_member p.names p.next head u lies.linked j (omega (arith, size_is)) in
       omega (arith, name_below p.names (chained p.next head j) m.0 m.1, k.names.items, k.units.links_len)
 
   abbrev t : Stocks

@@ -28,7 +28,7 @@ use Rattle.heap_plain.specs.Sections.{LivesAt, HeldShow, Aims}
 use Rattle.heap_plain.specs.Plain.{Shows, IsPlain}
 use Rattle.heap_plain.proofs.WorldFacts.{set_at_other, unit_of_is, state_more}
 use Rattle.heap_plain.proofs.Entries.{plain_more, holds_more}
-use Rattle.heap_plain.proofs.Refusals.{held_same, keeps_held}
+use Rattle.heap_plain.proofs.Refusals.{held_same, keeps_held, said_shows}
 use Rattle.heap_plain.proofs.Cells.{place_below, cells_write, numbers_write, targets_write, aims_target}
 use Rattle.heap_plain.proofs.RootSteps as root
 
@@ -151,32 +151,7 @@ module _ (z : Sizes) (p : Parts) (h : List Entry) (l : ℕ) (at : Ref) (was : Is
     },
     tt,
   )
-      (record {
-        phase = s.phase;
-        frames = s.frames;
-        names = s.names;
-        units = s.units;
-        distinct = s.distinct;
-        roots = s.roots;
-        held = held_same p.names p.lives _ _ l s.held;
-        work = s.work;
-        idle = s.idle;
-        marks = s.marks;
-        roots_marked = s.roots_marked;
-        kinds = s.kinds;
-        cells = s.cells;
-        black = s.black;
-        removed = s.removed;
-        gone = s.gone;
-        order = s.order;
-        gathers = s.gathers;
-        queue = s.queue;
-        free = s.free;
-        none_agreed = s.none_agreed;
-        none_asked = s.none_asked;
-        no_steps = s.no_steps;
-        garbage = s.garbage;
-      })
+      (said_shows z p (state_of h) l _ _ _ s.none_agreed refl s.no_steps s)
 
   pub plain_read_held : (slot got : ℕ) (k : ℕ) (r : Ref) → Holds record { history = h; names = p.names } k r → Holds record { history = h ++ read_plain_entry slot got ∷ []; names = p.names } k r
   plain_read_held slot got k r = holds_more h (read_plain_entry slot got ∷ []) p.names k r (keeps_held (state_of h).frames l k r.name)

@@ -16,4 +16,5 @@ pub mod Plain
 -- what the functions that mark and store do
 pub mod Shading
 pub mod Storing
+-- a unit that is being taken apart
 pub mod Parting

@@ -18,7 +18,7 @@ use Rattle.heap_plain.specs.Plain.{Shows}
 abbrev pub mended : State → State
 mended s = record { world = s.world; marks = s.marks; frames = λ lane. record (s.frames lane) { broken = []; loosened = [] }; slices = s.slices; collector = s.collector }
 
--- Members have left the unit of an object since the history was `old`, and so many are left, from the head on.
+-- Members have left the unit of an object since the history was `old`, and so many are left, from the head on. The worklist begins with their indexes.
 pub record IsParting (z : Sizes) (old : Shown) (lane : ℕ) (at : Name) (head count left : ℕ) (p : Parts) (history : List Entry) : Type 0 where
   pub of : List Name
   pub grown : history ≡ old.history ++ by (Lane lane) (map act.Loose of)
@@ -27,7 +27,6 @@ pub record IsParting (z : Sizes) (old : Shown) (lane : ℕ) (at : Name) (head co
   pub front : List Name
   pub stands : StandsAt p.names p.firsts p.sizes p.next p.lives (after history).units head front
   pub midway : IsMidway z (state_of history) lane (unit_of (after old.history) at) front
-  pub none : ((state_of history).frames lane).broken ≡ [] → ((state_of history).frames lane).loosened ≡ []
   pub counted : count ≡ length (unit_of (after old.history) at)
   pub size : left ≡ length front
   pub room : left ≤ length p.work

@@ -104,6 +104,7 @@ pub record GarbageShow (z : Sizes) (names : List (Option Name)) (lives : List Li
 
 -- ---- what frames hold
 
+-- What a frame holds lives, and a closed one holds nothing; no lane owes a store, or is in the midst of taking a unit apart.
 pub record HeldShow (names : List (Option Name)) (lives : List Life) (opened : List Pass) (frames : ℕ → Frame) : Type 0 where
   pub living : (lane : ℕ) (n : Name) → has (frames lane).held n ≡ true → (i : ℕ) × LivesAt names lives i n
   pub closed : (lane : ℕ) → list_any (same_pass (Lane lane)) opened ≡ false → (frames lane).held ≡ []

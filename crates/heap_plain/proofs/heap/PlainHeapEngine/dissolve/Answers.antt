@@ -1,4 +1,4 @@
-use Rattle.std.proofs.Common.{◌≡◌, ◌-◌, ◌∙◌, refl, arith, get_or}
+use Rattle.std.proofs.Common.{◌≡◌, ◌-◌, ◌<◌, ◌∙◌, refl, arith, get_or}
 use Rattle.std.proofs.lemmas.List.{get_or_read}
 use Rattle.heap_plain.specs.Parts.{first_at}
 use Rattle.heap_plain.proofs.WorldFacts.{appends_one}
@@ -62,14 +62,14 @@ index-index-requires g c = let r = c.loop-left.invariant.room in omega (arith, c
 pub named-requires : goal.named-requires
 named-requires g c =
     let i = c.loop-left.invariant in
-    let more = c.loop-left-test.true in
+    let more : 1 < c.loop-left.left = omega (arith, c.loop-left-test.true) in
     let index : c.index-index.result.now ≡ get_or c.loop-left.self-inside.work.items (c.loop-left.left - 1) 0 = get_or_read c.loop-left.self-inside.work.items _ _ (let r = i.room in omega arith) c.index-index.ensures 0 in
     rw (c.deref-in-loop-left.ensures.value, index, last_listed i more) (last_named i more)
 
 pub loop-left-preserved : goal.loop-left-preserved
 loop-left-preserved g c =
     let i = c.loop-left.invariant in
-    let more = c.loop-left-test.true in
+    let more : 1 < c.loop-left.left = omega (arith, c.loop-left-test.true) in
     let index : c.index-index.result.now ≡ get_or c.loop-left.self-inside.work.items (c.loop-left.left - 1) 0 = get_or_read c.loop-left.self-inside.work.items _ _ (let r = i.room in omega arith) c.index-index.ensures 0 in
     let to = index ∙ last_listed i more in
     goes_on i more _ _ _ _ (rw (c.deref-in-loop-left.ensures.value, to) at c.named.ensures) c.loose.ensures (rw to at c.loosen.ensures.firsts) (rw to at c.loosen.ensures.sizes)
