@@ -4,11 +4,6 @@ use Rattle.heap_plain.specs.Types.{Entry}
 use Rattle.heap_plain.proofs.Opened.{closed_by_frame, closed_by_slice, same_by_begin, same_by_commit, same_by_sweep, same_by_purge}
 use Rattle.heap_plain.proofs.cell_tests.collect.Goals as goal
 
-pub mark-marked-requires-clause-alone : goal.mark-marked-requires-clause-alone
-mark-marked-requires-clause-alone g c =
-    let closed = same_by_begin c.begin.ensures.entries ∙ closed_by_frame c.close_frame.ensures.entries in
-    rw (closed, c.requires.opened) refl
-
 pub returns : goal.returns
 returns g c =
     let closed = same_by_begin c.begin.ensures.entries ∙ closed_by_frame c.close_frame.ensures.entries in

@@ -1,5 +1,5 @@
-use Rattle.std.proofs.Common.{refl, ◌∙◌}
-use Rattle.heap_plain.proofs.Opened.{in_frame, closes_alone, same_by_begin, same_by_root}
+use Rattle.std.proofs.Common.{◌∙◌}
+use Rattle.heap_plain.proofs.Opened.{in_frame, same_by_root}
 use Rattle.heap_plain.proofs.part_tests.a_rooted_member_outlives_the_others.Goals as goal
 
 pub dissolve-requires-clause-opened : goal.dissolve-requires-clause-opened
@@ -7,6 +7,3 @@ dissolve-requires-clause-opened g c = same_by_root c.set_root.ensures.entries �
 
 pub close_frame-requires : goal.close_frame-requires
 close_frame-requires g c = record { frame = in_frame _ c.dissolve-2.ensures.opened }
-
-pub mark-requires-clause-alone : goal.mark-requires-clause-alone
-mark-requires-clause-alone g c = rw (same_by_begin c.begin.ensures.entries ∙ closes_alone c.close_frame.ensures.entries c.dissolve-2.ensures.opened) refl

@@ -1,4 +1,4 @@
-use Rattle.std.proofs.Common.{refl, ◌∙◌}
+use Rattle.std.proofs.Common.{◌∙◌}
 use Rattle.heap_plain.proofs.Opened.{in_frame, closes_alone, closed_by_slice, same_by_begin, same_by_commit, same_by_root}
 use Rattle.heap_plain.proofs.part_tests.a_unit_is_taken_apart_unless_a_collection_marks.Goals as goal
 
@@ -10,9 +10,6 @@ open_with-requires-2-clause-closed g c = same_by_begin c.begin.ensures.entries �
 
 pub close_frame-requires-2 : goal.close_frame-requires-2
 close_frame-requires-2 g c = record { frame = in_frame _ c.dissolve.ensures.opened }
-
-pub mark-requires-clause-alone : goal.mark-requires-clause-alone
-mark-requires-clause-alone g c = rw (closes_alone c.close_frame-2.ensures.entries c.dissolve.ensures.opened) refl
 
 pub open_with-requires-3-clause-closed : goal.open_with-requires-3-clause-closed
 open_with-requires-3-clause-closed g c = same_by_commit c.commit.ensures.entries ∙ closed_by_slice c.mark.ensures.entries (closes_alone c.close_frame-2.ensures.entries c.dissolve.ensures.opened)

@@ -22,13 +22,6 @@ close_frame-requires g c =
           ∙ same_by_create _ _ _ c.create.ensures.entries ∙ opened_by_frame c.open_frame.ensures.entries ∙ empty);
     }
 
-pub mark-requires-clause-alone : goal.mark-requires-clause-alone
-mark-requires-clause-alone g c =
-    let opened = same_by_create _ _ _ c.create-3.ensures.entries ∙ same_by_create _ _ _ c.create-2.ensures.entries ∙ same_by_root c.set_root.ensures.entries
-    ∙ same_by_create _ _ _ c.create.ensures.entries ∙ opened_by_frame c.open_frame.ensures.entries in
-    let closed = same_by_begin c.begin.ensures.entries ∙ closed_by_frame c.close_frame.ensures.entries in
-    rw (closed, opened, c.in_ok-heap.ensures.empty) refl
-
 pub returns : goal.returns
 returns g c =
     let opened = same_by_create _ _ _ c.create-3.ensures.entries ∙ same_by_create _ _ _ c.create-2.ensures.entries ∙ same_by_root c.set_root.ensures.entries
