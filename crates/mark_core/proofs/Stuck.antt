@@ -147,4 +147,7 @@ nobody_is_stuck z = record {
   start = λ cells. record { scans = λ m s wrong. absurd cc; roots = refl; looks = tt };
   bare = λ marked cells. record { scans = λ m s wrong. absurd cc; roots = refl; looks = tt };
   step = step_goes z;
+  made = λ c l u cells h. record { scans = h.scans; roots = h.roots; looks = h.looks };
+  cleared = λ c u gone left h. record { scans = h.scans; roots = h.roots; looks = h.looks };
+  loosened = λ c u v own left bit by_cell by_strong h. record { scans = h.scans; roots = h.roots; looks = h.looks };
 }

@@ -63,12 +63,14 @@ pub fn frames_are_counted()
     ensures { FramesAreCounted }
 {}
 
-/// Each event leaves the scans and the collector something to do, on a machine that has a root set.
+/// Each event leaves the scans and the collector something to do, on a machine that has a root set; and so do
+/// making, clearing and loosening.
 pub fn nobody_is_stuck()
     ensures { (z : Sizes) → NobodyIsStuck z }
 {}
 
-/// A marking can end: from every lawful machine that marks there are allowed events that lead to a commit.
+/// A marking can end: from every lawful machine with a marker that marks, and where nobody is stuck, there are
+/// allowed events that lead to a commit.
 pub fn markings_can_end()
     ensures { MarkingsCanEnd }
 {}
