@@ -1,15 +1,17 @@
-//! What the clauses do not say: that calls succeed, that an interrupted call is made again, and runs over
-//! readers and writers that fail.
+//! What the clauses do not say: that calls succeed, that an interrupted call is made again, that all of a
+//! text is told, and that no turn is.
 ghost use Rattle.std.specs.Prelude.{refl};
 
-use crate::program::{end, program};
+use crate::program::end;
 use crate::std_sink::StdSink;
 use crate::std_source::StdSource;
 use crate::steady::{SteadyRead, SteadyWrite};
-use play_io::{Failed, PutErr, Sink, Source};
+use play_io::{Failed, Pace, PutErr, Sink, Source, Turn};
+use std::alloc::{AllocError, Global};
 use std::io;
 use std::io::{BufWriter, ErrorKind, Read, Write};
-use world_play::Status;
+use std::sync::atomic::{AtomicU32, Ordering};
+use world_play::{Status, worldrun};
 
 // Fails each time.
 #[derive(Drop)]
@@ -163,71 +165,53 @@ fn each_status_has_its_text_and_number(rt: HostRuntime) {
     assert_eq!(rt; (exit.told, exit.code), (Err(PutErr::Failed), 2));
 }
 
+// The words of a line.
+fn split(alloc: Global, line: &str) -> Result<Vec<String>, AllocError> {
+    let mut words = Vec::new(alloc);
+    for word in line.split_whitespace() {
+        words.push(String::from_str(alloc, word)?)?;
+    }
+    Ok(words)
+}
+
 const SCRIPT: &str = "class A Object\n0 open\n0 new a A\n0 root a on\n0 close\ngc full\n";
 
 const TEXT: &str = "0 open idle\n0 new 0:1\n0 was off\n0 close\ngc full removed 0 left 0\n";
 
-#[test]
-fn a_run_over_bytes_in_memory(rt: HostRuntime) {
-    let words = vec![in rt.alloc();
-        String::from_str(rt.alloc(), "play").expect(&rt, "memory"),
-    ].expect(&rt, "memory");
-    let mut written = Vec::new(rt.alloc());
-    let mut told = Vec::new(rt.alloc());
-    let mut script = StdSource::new(SCRIPT.as_bytes());
-    let out = BufWriter::new(rt.alloc(), &mut written).expect(&rt, "memory");
-    let mut out = StdSink::new(out);
-    let mut err = StdSink::new(&mut told);
-    let finished = program(
-        &rt,
-        rt.alloc(),
-        words.as_slice(),
-        &mut script,
-        &mut out,
-        &mut err,
-    );
-    assert_eq!(rt; (finished.exit.code, finished.lines), (0, 5));
-    drop(out);
-    assert_eq!(rt; written.as_slice(), TEXT.as_bytes());
-    assert!(rt; told.as_slice().is_empty());
+// Counts the turns that it is told.
+#[derive(Drop)]
+struct Counted {
+    turns: AtomicU32,
+}
+
+impl Pace for Counted {
+    fn turn(&self, worker: u32, at: Turn) {
+        let _ = worker;
+        let _ = at;
+        let _ = self.turns.fetch_add(1, Ordering::SeqCst);
+    }
 }
 
 #[test]
-fn runs_over_what_fails(rt: HostRuntime) {
-    let words = vec![in rt.alloc();
-        String::from_str(rt.alloc(), "play").expect(&rt, "memory"),
-    ].expect(&rt, "memory");
-    let mut told = Vec::new(rt.alloc());
-    let mut err = StdSink::new(&mut told);
+fn no_turn_is_told(rt: HostRuntime) {
+    let words = split(rt.alloc(), "play --markers 8").expect(&rt, "memory");
+    let pace = Counted {
+        turns: AtomicU32::new(0),
+    };
     let mut script = StdSource::new(SCRIPT.as_bytes());
-    let out = BufWriter::new(rt.alloc(), Broken).expect(&rt, "memory");
-    let mut out = StdSink::new(out);
-    let finished = program(
-        &rt,
-        rt.alloc(),
-        words.as_slice(),
-        &mut script,
-        &mut out,
-        &mut err,
-    );
-    assert_eq!(rt; (finished.exit.code, out.faults), (5, 1));
-    let mut script = StdSource::new(Broken);
     let mut written = Vec::new(rt.alloc());
-    let out = BufWriter::new(rt.alloc(), &mut written).expect(&rt, "memory");
-    let mut out = StdSink::new(out);
-    let finished = program(
+    let mut out = StdSink::new(&mut written);
+    let ended = worldrun(
         &rt,
         rt.alloc(),
         words.as_slice(),
         &mut script,
         &mut out,
-        &mut err,
+        &pace,
     );
-    assert_eq!(rt; (finished.exit.code, script.faults), (4, 1));
-    drop(out);
-    assert!(rt; written.as_slice().is_empty());
-    assert_eq!(rt;
-        told.as_slice(),
-        b"worldrun: write fault\nworldrun: read fault\n".as_slice()
-    );
+    assert_eq!(rt; ended.status, Status::Ok);
+    assert_eq!(rt; written.as_slice(), TEXT.as_bytes());
+    assert_eq!(rt; pace.turns.load(Ordering::SeqCst), 0);
+    pace.turn(1, Turn::Slice);
+    assert_eq!(rt; pace.turns.load(Ordering::SeqCst), 1);
 }
