@@ -20,7 +20,7 @@ use Rattle.level_script.specs.Context.{start, with_line, with_classes, with_name
 use Rattle.level_script.specs.Frames.{opened_after, fits_spot, fits_target, fits_lane, fits, frames_after, are_framed, IsAtOnce, IsNamed, IsPlayable}
 use Rattle.level_script.specs.Forms.{is_identifier}
 use Rattle.level_script.proofs.Naming.{SaysName, SaysNameIfOk, identifier_bytes, line_says}
-use Rattle.level_script.specs.Lanes.{closed_lane, count_of, bound_new, root_of, bound_var, if_bound, element_in, spot_with, spot_found, bound_target, set_at, set_in, get_at, get_in, put_at, put_in, take_at, take_in, print_of, open_step, close_step, new_step, root_step, print_step, lane_step, lane_index}
+use Rattle.level_script.specs.Lanes.{closed_lane, count_of, bound_new, root_of, bound_var, if_bound, element_in, spot_with, spot_found, bound_target, set_at, set_in, get_at, get_in, put_at, put_in, take_at, take_in, print_of, lane_step, lane_index}
 use Rattle.level_script.specs.Lines.{input_lines}
 use Rattle.level_script.specs.Names.{number_of_name, number_in, with_name, has_number}
 use Rattle.level_script.specs.Reading.{line_turn, read_from, read_on, fault_at, outcome_of, script_of, script_of_lines}
@@ -47,15 +47,15 @@ use Rattle.level_script.specs.declared.script.Who.TheVariants as who
 -- ---- answers
 
 -- equal answers have equal values
-ok_same : {A E : Type 0} {a b : A} → ◌≡◌ {A = Result A E} (Ok a) (Ok b) → a ≡ b
+pub ok_same : {A E : Type 0} {a b : A} → ◌≡◌ {A = Result A E} (Ok a) (Ok b) → a ≡ b
 ok_same {A} {E} {a} {b} e = ap (λ (r : Result A E). elim r [ Ok x ↦ x | Err y ↦ a ]) e
 
 -- a fault is no answer
-err_ok : {A E : Type 0} {P : Type 0} {a : A} {e : E} → ◌≡◌ {A = Result A E} (Err e) (Ok a) → P
+pub err_ok : {A E : Type 0} {P : Type 0} {a : A} {e : E} → ◌≡◌ {A = Result A E} (Err e) (Ok a) → P
 err_ok h = absurd (cc)
 
 -- equal options have equal values
-some_same : {A : Type 0} {a b : A} → Some a ≡ Some b → a ≡ b
+pub some_same : {A : Type 0} {a b : A} → Some a ≡ Some b → a ≡ b
 some_same {A} {a} {b} e = ap (λ (o : Option A). elim o [ Some x ↦ x | None ↦ a ]) e
 
 -- ---- places in lists
@@ -74,7 +74,7 @@ position_below p xs i e =
     subst P h.1 below
 
 -- one more item
-length_push : {X : Type 0} (xs : List X) (y : X) → length (xs ++ y ∷ []) ≡ length xs + 1
+pub length_push : {X : Type 0} (xs : List X) (y : X) → length (xs ++ y ∷ []) ≡ length xs + 1
 length_push xs y = length-append xs (y ∷ [])
 
 -- the names with one that may be new are no fewer
@@ -83,7 +83,7 @@ name_grows true names name = omega arith
 name_grows false names name = omega (arith, length_push names name)
 
 -- where an item passes, the first that does has a place
-any_place : (p : List ℕ → Bool) (xs : List (List ℕ)) → list_any p xs ≡ true → position_or_len p xs < length xs
+pub any_place : (p : List ℕ → Bool) (xs : List (List ℕ)) → list_any p xs ≡ true → position_or_len p xs < length xs
 any_place p [] h = absurd (cc)
 any_place p (x ∷ xs) h = any_cons (p x) h (any_place p xs)
   where
@@ -130,7 +130,7 @@ below_true : (m n k : ℕ) → m < n → n ≤ k → nat_lt m k ≡ true
 below_true m n k h most = lt-ltb m k (omega (arith, h, most))
 
 -- two tests that hold
-and_both : (a b : Bool) → a ≡ true → b ≡ true → (a && b) ≡ true
+pub and_both : (a b : Bool) → a ≡ true → b ≡ true → (a && b) ≡ true
 and_both a b e f = (λ t. e t && f t)
 
 -- what a step of a lane does to its frame and its variables, and that its command fits
@@ -326,7 +326,7 @@ through_more frames [] line = refl
 through_more frames (l ∷ lines) line = through_more (frames_after frames l.who l.cmd) lines line
 
 -- two tests that hold together
-both : (a b : Bool) → (a && b) ≡ true → (a ≡ true) × (b ≡ true)
+pub both : (a b : Bool) → (a && b) ≡ true → (a ≡ true) × (b ≡ true)
 both true b h = (refl, h)
 both false b h = absurd (cc)
 
@@ -539,7 +539,7 @@ good_said limits c next number (Err why) g says e = err_ok e
 good_said limits c next number (Ok what) g says e = good_act limits c next number what g says e
 
 -- a line that is read is not too late
-short_enough : (b : Bool) (r : Result Context Cause) (next : Context) → cond b (Err cause.TooLong) r ≡ Ok next → r ≡ Ok next
+pub short_enough : (b : Bool) (r : Result Context Cause) (next : Context) → cond b (Err cause.TooLong) r ≡ Ok next → r ≡ Ok next
 short_enough true r next e = err_ok e
 short_enough false r next e = e
 
@@ -549,7 +549,7 @@ unfolding line_turn
 good_line limits c next number line g e = good_said limits c next number (said_by_line c.in_header line) g (line_says c.in_header line) (short_enough (nat_lt 200000 number) (turn number c line) next e)
 
 -- what is read on is read after a line
-on_ok : (number : ℕ) (r : Result Context Cause) (more : Context → Result Context ScriptErr) (last : Context) → read_on number r more ≡ Ok last → (next : Context) × (r ≡ Ok next) × (more next ≡ Ok last)
+pub on_ok : (number : ℕ) (r : Result Context Cause) (more : Context → Result Context ScriptErr) (last : Context) → read_on number r more ≡ Ok last → (next : Context) × (r ≡ Ok next) × (more next ≡ Ok last)
 on_ok number (Err why) more last e = err_ok e
 on_ok number (Ok next) more last e = (next, refl, e)
 

@@ -5,3 +5,5 @@ pub mod Turning
 pub mod Naming
 pub mod Framing
 pub mod First
+pub mod Following
+pub mod Binding

@@ -6,3 +6,4 @@ pub mod Lanes
 pub mod Lines
 pub mod Names
 pub mod Reading
+pub mod Following

@@ -1,4 +1,5 @@
 //! Laws of the definitions.
+ghost use Rattle.level_script.specs.Following.{FaultByLines, QuietLines, BoundByLines};
 ghost use Rattle.level_script.specs.Reading.{FirstFault, OneOutcome};
 
 /// Each input is a script, or has a first fault, and not both.
@@ -10,4 +11,21 @@ pub fn one_outcome()
 /// faulty one are read, and that line has the cause.
 pub fn first_fault()
     ensures { FirstFault }
+{}
+
+/// The fault of a line depends on the lines up to it alone.
+pub fn fault_by_lines()
+    ensures { FaultByLines }
+{}
+
+/// Comments and blank lines do nothing but that they are counted: an input is what its other lines
+/// are, with the numbers that they have.
+pub fn quiet_lines()
+    ensures { QuietLines }
+{}
+
+/// A variable is bound exactly where a line of its lane binds it, and no line behind that closes the
+/// lane's frame.
+pub fn bound_by_lines()
+    ensures { BoundByLines }
 {}

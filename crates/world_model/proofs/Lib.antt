@@ -35,6 +35,7 @@ pub mod Headlines
 pub mod Decided
 pub mod Scanning
 pub mod Polls
+pub mod Turns
 pub mod Garbage
 pub mod Apart
 pub mod Sharp

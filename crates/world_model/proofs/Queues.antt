@@ -144,11 +144,11 @@ unit_with (v ∷ units) n h = go (or_true _ _ (sym (list_any-append (same_name n
     go (inr k) rest = let r = rest k in (r.0, inr r.1, r.2)
 
 -- of different names in two parts those of the second are different, and none stands in both
-second_part : (ns ms : List Name) → all_different (ns ++ ms) ≡ true → all_different ms ≡ true
+pub second_part : (ns ms : List Name) → all_different (ns ++ ms) ≡ true → all_different ms ≡ true
 second_part [] ms h = h
 second_part (m ∷ ns) ms h = second_part ns ms (and_true _ _ h).1
 
-in_one_part : (ns ms : List Name) (n : Name) → all_different (ns ++ ms) ≡ true → Among ns n → has ms n ≡ true → ⊥
+pub in_one_part : (ns ms : List Name) (n : Name) → all_different (ns ++ ms) ≡ true → Among ns n → has ms n ≡ true → ⊥
 in_one_part [] ms n h k l = absurd k
 in_one_part (m ∷ ns) ms n h (inr k) l = in_one_part ns ms n (and_true _ _ h).1 k l
 in_one_part (m ∷ ns) ms n h (inl e) l =
@@ -179,17 +179,17 @@ first_begins : (n : Name) (u : List Name) → Some n ≡ first_member u → begi
 first_begins n [] e = absurd cc
 first_begins n (m ∷ u) e = let same : n ≡ m = cc in ap (same_name n) (sym same) ∙ same_name_refl n
 
--- a unit of the destruction order is a removed unit, and begins with some name
+-- a unit of the destruction order is a removed unit, and begins with a name that is found
 pub unit_in_order : (units : List (List Name)) (found : List Name) (u : List Name) → Among (flat_map (λ n. filter (begins_with n) units) found) u
-    → Among units u × ((n : Name) × (begins_with n u ≡ true))
+    → Among units u × ((n : Name) × (begins_with n u ≡ true) × Among found n)
 unit_in_order units [] u k = absurd k
 unit_in_order units (n ∷ found) u k = go (among_append (filter (begins_with n) units) _ u k) (unit_in_order units found u)
   where
     go : Among (filter (begins_with n) units) u ⊎ Among (flat_map (λ n. filter (begins_with n) units) found) u
-        → (Among (flat_map (λ n. filter (begins_with n) units) found) u → Among units u × ((n : Name) × (begins_with n u ≡ true)))
-        → Among units u × ((n : Name) × (begins_with n u ≡ true))
-    go (inl h) rest = (among_filter (begins_with n) units u h, (n, among_filter_test (begins_with n) units u h))
-    go (inr h) rest = rest h
+        → (Among (flat_map (λ n. filter (begins_with n) units) found) u → Among units u × ((m : Name) × (begins_with m u ≡ true) × Among found m))
+        → Among units u × ((m : Name) × (begins_with m u ≡ true) × Among (n ∷ found) m)
+    go (inl h) rest = (among_filter (begins_with n) units u h, (n, among_filter_test (begins_with n) units u h, inl refl))
+    go (inr h) rest = let r = rest h in (r.0, (r.1.0, r.1.1, inr r.1.2))
 
 -- the unit that is to be released
 pub ready_unit : (p : List Name → Bool) (order : List (List Name)) (h : Name) → Some h ≡ option_and_then first_member (find p order)

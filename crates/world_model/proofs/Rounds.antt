@@ -164,7 +164,8 @@ turned x before (y ∷ behind) rest e different =
       ap (λ (names : List Name). has names x) (sym others) ∙ list_any-append (same_name x) behind before ∙ (rw (apart.1, apart.0) refl),
     )
 
-next_round : (p : Name → Bool) (asked : Option Name) (names : List Name) (x : Name) (rest : List Name)
+-- the round behind this one has the first one last, and it stands in no other place
+pub next_round : (p : Name → Bool) (asked : Option Name) (names : List Name) (x : Name) (rest : List Name)
     → all_different names ≡ true → filter p (rotated asked names) ≡ x ∷ rest
     → (filter p (rotated (Some x) names) ≡ rest ++ x ∷ []) × (has rest x ≡ false)
 next_round p asked names x rest different e =

@@ -343,7 +343,7 @@ gone_next z s p a may known h n k = (made_stays s p a n (h n k).0, false_from_ne
     again (inr new) = (is_new z s p a n may new).0 (h n k).0
 
 -- they were made, and do not live
-gone : (z : Sizes) (history : List Entry) → Legal z history → (n : Name) → has (members (after history).last_removed) n ≡ true → IsMade (after history) n × (in_world (after history) n ≡ false)
+pub gone : (z : Sizes) (history : List Entry) → Legal z history → (n : Name) → has (members (after history).last_removed) n ≡ true → IsMade (after history) n × (in_world (after history) n ≡ false)
 gone z = by_states z (λ s. (n : Name) → has (members s.world.last_removed) n ≡ true → IsMade s.world n × (in_world s.world n ≡ false)) (λ n k. absurd cc)
     (λ xs e legal may h. gone_next z (state_of xs) e.pass e.act may (next_sound z (state_of xs) e may (sound z xs legal)) h)
 

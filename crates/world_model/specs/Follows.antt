@@ -10,7 +10,7 @@ use Rattle.world_model.specs.Types.sweep
 use Rattle.world_model.specs.Types.purge
 use Rattle.world_model.specs.Sizes.{Sizes, IsLawful}
 use Rattle.world_model.specs.NameLists.{same_name, same_pass, has, all_different, members, begins_with, ends_with, parted, names_from}
-use Rattle.world_model.specs.World.{World, Pair, Removed, Begun, Finished, unit_of, in_world, is_given, is_open, made, live_count, removed_count, occupied, free, resolved, drawn, is_at}
+use Rattle.world_model.specs.World.{World, Pair, Removed, Begun, Finished, unit_of, in_world, is_given, is_open, made, live_count, removed_count, occupied, free, resolved, drawn, is_at, destruction_order}
 use Rattle.world_model.specs.Reach.{Graph, graph, IsUnit, Refers, IsRootUnit, Walk, IsReached}
 use Rattle.world_model.specs.State.{State, beginning, Holds, IsMarked, is_marked, is_grey, grey_units}
 use Rattle.world_model.specs.Next.{lane_of, given, next}
@@ -332,6 +332,19 @@ abbrev pub BegunWhenFinished : Type 0
 BegunWhenFinished = (z : Sizes) (history : List Entry) (of : Name) → Legal z (history ++ entry Collector (act.Finished of) ∷ []) → (n : Name)
     → IsTrue (has (members (after history).last_removed) n) → times_begun history n ≡ 1
 
+-- of the objects that the last commit removed and whose units are found, in the destruction order, the first ones were begun and the others were not
+pub record IsBegunInOrder (history : List Entry) : Type 0 where
+  pub front : List Name
+  pub rest : List Name
+  pub order : members (destruction_order (after history)) ≡ front ++ rest
+  pub different : IsTrue (all_different (front ++ rest))
+  pub begun : (n : Name) → IsTrue (has front n) → times_begun history n ≡ 1
+  pub waiting : (n : Name) → IsTrue (has rest n) → times_begun history n ≡ 0
+
+-- The objects that are begun are a beginning of the destruction order, in which no object stands twice.
+abbrev pub BegunInOrder : Type 0
+BegunInOrder = (z : Sizes) (history : List Entry) → Legal z history → IsBegunInOrder history
+
 -- a release takes one removed unit, whole, and each of its members was begun once and finished once
 pub record ReleasesUnit (history : List Entry) (of : Name) : Type 0 where
   pub unit : List Name
@@ -364,6 +377,12 @@ times_asked history n = count_by (λ e. asks n e.act) history
 -- The polls of an object are numbered 1, 2, 3 and so on, up to 65,535, at which the number stays.
 abbrev pub PollsAreNumbered : Type 0
 PollsAreNumbered = (z : Sizes) (history : List Entry) (of : Name) (poll : ℕ) (answer : Bool) → Legal z (history ++ entry Collector (act.Asked of poll answer) ∷ []) → poll ≡ min (times_asked history of + 1) 65535
+
+-- Objects are polled in turn: between two polls of an object each other one that is begun and not finished is polled.
+abbrev pub AskedInTurn : Type 0
+AskedInTurn = (z : Sizes) (before during : List Entry) (of : Name) (poll next : ℕ) (answer other : Bool)
+    → Legal z (((before ++ entry Collector (act.Asked of poll answer) ∷ []) ++ during) ++ entry Collector (act.Asked of next other) ∷ [])
+    → (n : Name) → n ≢ of → IsTrue (is_at (after ((before ++ entry Collector (act.Asked of poll answer) ∷ []) ++ during)) Begun n) → 1 ≤ times_asked during n
 
 -- While a collection marks, and so from its start on, every removed object is released.
 abbrev pub ReleasedBeforeStart : Type 0

@@ -10,7 +10,7 @@ ghost use Rattle.world_model.specs.Follows.{RootsStayMarked, CommitRuleFollows};
 ghost use Rattle.world_model.specs.Follows.{ReachedStay, CommitRemovesUnreached};
 ghost use Rattle.world_model.specs.Follows.{FloatingIsBounded, UnreachedIsRemoved};
 ghost use Rattle.world_model.specs.Follows.{DestroyedOnce, DestroyedByStage, AllBegunFirst};
-ghost use Rattle.world_model.specs.Follows.{BegunWhenFinished, FinishedBehindPoll, PollsAreNumbered, ReleasedWhole, ReleasedBeforeStart};
+ghost use Rattle.world_model.specs.Follows.{BegunInOrder, BegunWhenFinished, FinishedBehindPoll, PollsAreNumbered, AskedInTurn, ReleasedWhole, ReleasedBeforeStart};
 ghost use Rattle.world_model.specs.Follows.{WeakPointers, ResolveGives, ResolveGivesNoneAgain};
 ghost use Rattle.world_model.specs.Follows.{GarbageIsMarked, GarbageLasts};
 ghost use Rattle.world_model.specs.Follows.{MarksChangeNothing, GarbageDecidesNothing};
@@ -191,6 +191,16 @@ pub fn finished_behind_poll()
 /// The polls of an object are numbered 1, 2, 3 and so on, up to 65,535, at which the number stays.
 pub fn polls_are_numbered()
     ensures { PollsAreNumbered }
+{}
+
+/// The objects that are begun are a beginning of the destruction order.
+pub fn begun_in_order()
+    ensures { BegunInOrder }
+{}
+
+/// Between two polls of an object each other one that is begun and not finished is polled.
+pub fn asked_in_turn()
+    ensures { AskedInTurn }
 {}
 
 /// A release takes one removed unit, whole, and each of its members was begun once and finished

@@ -1,4 +1,4 @@
-use Rattle.std.proofs.Common.{◌≡◌, ap, ◌∙◌, take, IsTrue}
+use Rattle.std.proofs.Common.{◌≡◌, ap, ◌∙◌, take}
 use Rattle.std.specs.List.{list_all}
 use Rattle.level_script.specs.Forms.{continues_identifier, front}
 use Rattle.level_script.proofs.Forming.{front_continues}

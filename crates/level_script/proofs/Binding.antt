@@ -1,0 +1,513 @@
+-- A variable is bound exactly where a line binds it and none behind closes the frame.
+use Rattle.std.proofs.Common.{◌≡◌, ℕ, zero, suc, ◌+◌, ◌<◌, ◌≤◌, ◌==◌, inl, inr, arith, refl, sym, ap, ◌∙◌, Bool, true, false, cond, not, ◌&&◌, ◌||◌, List, [], ◌∷◌, ◌++◌, length, get_or, replicate, Option, Some, None, Result, Ok, Err, ◌⊎◌}
+use Rattle.std.specs.Prelude.{nat_lt, slice_get, position}
+use Rattle.std.specs.List.{list_all, list_any, position_or_len}
+use Rattle.std.specs.Str.{bytes_eq, is_utf8}
+use Rattle.std.specs.Prelude.{codes}
+use Rattle.std.proofs.lemmas.Bool.{both_ways, false_from_ne_true, ltb-true, lt-ltb, le-ltb, eqb-true, eq-eqb}
+use Rattle.std.proofs.lemmas.List.Folds.{list_any-append}
+use Rattle.std.proofs.lemmas.List.Sums.{passes_at_first}
+use Rattle.class_schema.proofs.Labels.{same_bytes, bytes_same}
+use Rattle.class_schema.proofs.Places.{set_cases}
+use Rattle.world_model.specs.declared.kind.ClassId.{ClassId}
+use Rattle.class_schema.specs.Class.{Class, Schema}
+use Rattle.class_schema.specs.Table.{find_class, added, field_added}
+use Rattle.class_schema.specs.declared.field.FieldKind.{FieldKind}
+use Rattle.class_schema.specs.declared.refusal.SchemaErr.{SchemaErr}
+use Rattle.level_script.specs.Commands.{pair_of, class_names, class_words, class_line, count_of, field_of, two_names, field_said, field_elements, field_words, field_line, said_by_words, said_by_line}
+use Rattle.level_script.specs.Context.{start, with_classes, with_named, elements_in, kind_found, field_known, field_counted, with_lane, lane_at, lane_of, if_said, turn}
+use Rattle.level_script.specs.Following.{binds_name, is_close, says_of, line_of, IsBoundBy, is_some, BoundByLines}
+use Rattle.level_script.specs.Forms.{identifier_of, is_comment}
+use Rattle.level_script.specs.Lanes.{closed_lane, bound_new, root_of, bound_var, if_bound, element_in, spot_found, bound_target, set_at, set_in, get_at, get_in, put_at, put_in, take_at, take_in, print_of, lane_step, lane_index}
+use Rattle.level_script.specs.Lines.{line_words}
+use Rattle.level_script.specs.Names.{number_of_name, number_in, with_name, has_number, with_number}
+use Rattle.level_script.specs.Reading.{line_turn, read_from}
+use Rattle.level_script.specs.declared.cause.Cause.{Cause}
+use Rattle.level_script.specs.declared.cause.Cause.TheVariants as cause
+use Rattle.level_script.specs.declared.context.Context.{Context}
+use Rattle.level_script.specs.declared.lanes.LaneNames.{LaneNames}
+use Rattle.level_script.specs.declared.said.Does.{Does}
+use Rattle.level_script.specs.declared.said.Does.TheVariants as does
+use Rattle.level_script.specs.declared.said.FieldOf.{FieldOf}
+use Rattle.level_script.specs.declared.said.Place.{Place}
+use Rattle.level_script.specs.declared.said.Said.{Said}
+use Rattle.level_script.specs.declared.said.Said.TheVariants as said
+use Rattle.level_script.specs.declared.script.Cmd.{Cmd}
+use Rattle.level_script.specs.declared.script.Spot.{Spot}
+use Rattle.level_script.proofs.Framing.{ok_same, err_ok, some_same, any_place, length_push, short_enough, both, and_both, on_ok}
+
+-- ---- places of names
+
+-- where nothing passes, the first place is the end
+none_place : (p : List ℕ → Bool) (xs : List (List ℕ)) → list_any p xs ≡ false → position_or_len p xs ≡ length xs
+none_place p [] h = refl
+none_place p (x ∷ xs) h = go (p x) h (none_place p xs)
+  where
+    go : (b : Bool) → (b || list_any p xs) ≡ false → (list_any p xs ≡ false → position_or_len p xs ≡ length xs) → cond (not b) (1 + position_or_len p xs) 0 ≡ length (x ∷ xs)
+    go true h rest = absurd cc
+    go false h rest = let r = rest h in omega arith
+
+-- where this is the first place, it is a place of the list or it is none
+at_place : (n k : ℕ) → n < k → cond (nat_lt n k) (Some n) None ≡ Some n
+at_place n k h = ap (λ b. cond b (Some n) None) (lt-ltb n k h)
+
+no_place : (n k : ℕ) → k ≤ n → cond (nat_lt n k) (Some n) None ≡ None
+no_place n k h = ap (λ b. cond b (Some n) None) (le-ltb n k h)
+
+-- a first place stays it, where more stand behind
+place_stays : (p : List ℕ → Bool) (xs : List (List ℕ)) (y : List ℕ) → list_any p xs ≡ true → position_or_len p (xs ++ y ∷ []) ≡ position_or_len p xs
+place_stays p [] y h = absurd cc
+place_stays p (x ∷ xs) y h = go (p x) h (place_stays p xs y)
+  where
+    go : (b : Bool) → (b || list_any p xs) ≡ true → (list_any p xs ≡ true → position_or_len p (xs ++ y ∷ []) ≡ position_or_len p xs)
+        → cond (not b) (1 + position_or_len p (xs ++ y ∷ [])) 0 ≡ cond (not b) (1 + position_or_len p xs) 0
+    go true h rest = refl
+    go false h rest = ap (λ k. 1 + k) (rest h)
+
+place_last : (p : List ℕ → Bool) (xs : List (List ℕ)) (y : List ℕ) → list_any p xs ≡ false → p y ≡ true → position_or_len p (xs ++ y ∷ []) ≡ length xs
+place_last p [] y h own = go (p y) own
+  where
+    go : (b : Bool) → b ≡ true → cond (not b) (1 + 0) 0 ≡ 0
+    go true e = refl
+    go false e = absurd cc
+place_last p (x ∷ xs) y h own = go (p x) h (λ h. place_last p xs y h own)
+  where
+    go : (b : Bool) → (b || list_any p xs) ≡ false → (list_any p xs ≡ false → position_or_len p (xs ++ y ∷ []) ≡ length xs)
+        → cond (not b) (1 + position_or_len p (xs ++ y ∷ [])) 0 ≡ length (x ∷ xs)
+    go true h rest = absurd cc
+    go false h rest = let r = rest h in omega arith
+
+-- a name that is put behind others is found there
+found_new : (names : List (List ℕ)) (var : List ℕ) → number_of_name (with_name names var) var ≡ Some (number_in names var)
+unfolding number_of_name with_name number_in
+found_new names var = go (list_any (bytes_eq var) names) refl
+  where
+    go : (b : Bool) → list_any (bytes_eq var) names ≡ b → position (bytes_eq var) (cond b names (names ++ var ∷ [])) ≡ Some (position_or_len (bytes_eq var) names)
+    go true e = at_place (position_or_len (bytes_eq var) names) (length names) (any_place (bytes_eq var) names e)
+    go false e =
+        let here : position_or_len (bytes_eq var) (names ++ var ∷ []) ≡ length names = place_last (bytes_eq var) names var e (bytes_same var var refl) in
+        let old : position_or_len (bytes_eq var) names ≡ length names = none_place (bytes_eq var) names e in
+        let more : length (names ++ var ∷ []) ≡ length names + 1 = length_push names var in
+        ap (λ k. cond (nat_lt k (length (names ++ var ∷ []))) (Some k) None) (here ∙ sym old)
+        ∙ at_place (position_or_len (bytes_eq var) names) (length (names ++ var ∷ [])) (omega arith)
+
+-- and others are found where they were
+found_other : (names : List (List ℕ)) (var name : List ℕ) → bytes_eq name var ≡ false → number_of_name (with_name names var) name ≡ number_of_name names name
+unfolding number_of_name with_name
+found_other names var name other = go (list_any (bytes_eq var) names) (list_any (bytes_eq name) names) refl
+  where
+    n : ℕ
+    n = position_or_len (bytes_eq name) names
+
+    more : length (names ++ var ∷ []) ≡ length names + 1
+    more = length_push names var
+
+    go : (b there : Bool) → list_any (bytes_eq name) names ≡ there → position (bytes_eq name) (cond b names (names ++ var ∷ [])) ≡ position (bytes_eq name) names
+    go true there e = refl
+    go false true e =
+        let below = any_place (bytes_eq name) names e in
+        ap (λ k. cond (nat_lt k (length (names ++ var ∷ []))) (Some k) None) (place_stays (bytes_eq name) names var e)
+        ∙ at_place n (length (names ++ var ∷ [])) (omega (arith, below, more)) ∙ sym (at_place n (length names) below)
+    go false false e =
+        let none : list_any (bytes_eq name) (names ++ var ∷ []) ≡ false = list_any-append (bytes_eq name) names (var ∷ []) ∙ (rw (e, other) refl) in
+        let new = none_place (bytes_eq name) (names ++ var ∷ []) none in
+        let old = none_place (bytes_eq name) names e in
+        no_place (position_or_len (bytes_eq name) (names ++ var ∷ [])) (length (names ++ var ∷ [])) (omega (arith, new)) ∙ sym (no_place n (length names) (omega (arith, old)))
+
+-- a name that is found is at its first place, which is none of another's
+other_place : (names : List (List ℕ)) (var name : List ℕ) (i : ℕ) → bytes_eq name var ≡ false → number_of_name names name ≡ Some i → (number_in names var == i) ≡ false
+unfolding number_of_name number_in
+other_place names var name i other e = false_from_ne_true _ (λ same. go (nat_lt n (length names)) refl e same)
+  where
+    n : ℕ
+    n = position_or_len (bytes_eq name) names
+
+    k : ℕ
+    k = position_or_len (bytes_eq var) names
+
+    go : (b : Bool) → nat_lt n (length names) ≡ b → cond b (Some n) None ≡ Some i → (k == i) ≡ true → ⊥
+    go false lt e same = absurd cc
+    go true lt e same =
+        let at : n ≡ i = some_same e in
+        let here : k ≡ i = eqb-true k i same in
+        let below : n < length names = ltb-true n (length names) lt in
+        let there : k < length names = omega arith in
+        let by_name : bytes_eq name (get_or names n []) ≡ true = passes_at_first (bytes_eq name) names [] below in
+        let by_var : bytes_eq var (get_or names k []) ≡ true = passes_at_first (bytes_eq var) names [] there in
+        let one : name ≡ get_or names i [] = same_bytes name (get_or names n []) by_name ∙ ap (λ (j : ℕ). get_or names j []) at in
+        let two : var ≡ get_or names i [] = same_bytes var (get_or names k []) by_var ∙ ap (λ (j : ℕ). get_or names j []) here in
+        both_ways (bytes_eq name var) other (bytes_same name var (one ∙ sym two))
+
+-- ---- numbers that are bound
+
+-- whether a name is bound
+abbrev is_bound : LaneNames → List ℕ → Bool
+is_bound lane name = is_some (bound_var lane name)
+
+eq_self : (k : ℕ) → (k == k) ≡ true
+eq_self k = eq-eqb k k refl
+
+has_new : (bound : List ℕ) (k : ℕ) → has_number (with_number bound k) k ≡ true
+has_new bound k = go (has_number bound k) refl
+  where
+    go : (b : Bool) → has_number bound k ≡ b → has_number (cond b bound (bound ++ k ∷ [])) k ≡ true
+    go true e = e
+    go false e = list_any-append (λ n. k == n) bound (k ∷ []) ∙ (rw (e, eq_self k) refl)
+
+has_old : (bound : List ℕ) (k i : ℕ) → (i == k) ≡ false → has_number (with_number bound k) i ≡ has_number bound i
+has_old bound k i other = go (has_number bound k)
+  where
+    go : (b : Bool) → has_number (cond b bound (bound ++ k ∷ [])) i ≡ has_number bound i
+    go true = refl
+    go false = list_any-append (λ n. i == n) bound (k ∷ []) ∙ ap (λ (b : Bool). has_number bound i || (b || false)) other ∙ last (has_number bound i)
+      where
+        last : (b : Bool) → (b || (false || false)) ≡ b
+        last true = refl
+        last false = refl
+
+eq_flip : (i k : ℕ) → (k == i) ≡ false → (i == k) ≡ false
+eq_flip i k e = false_from_ne_true _ (λ same. both_ways (k == i) e (ap (λ (j : ℕ). k == j) (eqb-true i k same) ∙ eq_self k))
+
+-- a number that is there is bound where it is among those that are
+bound_some : (bound : List ℕ) (o : Option ℕ) (i : ℕ) → o ≡ Some i → is_some (if_bound bound o) ≡ has_number bound i
+bound_some bound None i e = absurd cc
+bound_some bound (Some j) i e = go (has_number bound j) refl (some_same e)
+  where
+    go : (b : Bool) → has_number bound j ≡ b → j ≡ i → is_some (cond b (Some j) None) ≡ has_number bound i
+    go true is same = sym is ∙ ap (has_number bound) same
+    go false is same = sym is ∙ ap (has_number bound) same
+
+-- one more name is bound, and the others are what they were
+bound_more : (opened : Bool) (lane : LaneNames) (var name : List ℕ)
+    → is_bound (record { opened = opened; names = with_name lane.names var; bound = with_number lane.bound (number_in lane.names var) }) name ≡ (is_bound lane name || bytes_eq name var)
+bound_more opened lane var name = go (bytes_eq name var) refl
+  where
+    k : ℕ
+    k = number_in lane.names var
+
+    or_last : (b : Bool) → (b || true) ≡ true
+    or_last true = refl
+    or_last false = refl
+
+    or_none : (b : Bool) → b ≡ (b || false)
+    or_none true = refl
+    or_none false = refl
+
+    other : bytes_eq name var ≡ false → (o : Option ℕ) → number_of_name lane.names name ≡ o → is_some (if_bound (with_number lane.bound k) o) ≡ is_some (if_bound lane.bound o)
+    other e None is = refl
+    other e (Some i) is = bound_some (with_number lane.bound k) (Some i) i refl ∙ has_old lane.bound k i (eq_flip i k (other_place lane.names var name i e is)) ∙ sym (bound_some lane.bound (Some i) i refl)
+
+    go : (b : Bool) → bytes_eq name var ≡ b → is_some (if_bound (with_number lane.bound k) (number_of_name (with_name lane.names var) name)) ≡ (is_bound lane name || b)
+    go true e =
+        let same : name ≡ var = same_bytes name var e in
+        bound_some (with_number lane.bound k) (number_of_name (with_name lane.names var) name) k (ap (number_of_name (with_name lane.names var)) same ∙ found_new lane.names var)
+        ∙ has_new lane.bound k ∙ sym (or_last (is_bound lane name))
+    go false e =
+        ap (λ o. is_some (if_bound (with_number lane.bound k) o)) (found_other lane.names var name e)
+        ∙ other e (number_of_name lane.names name) refl ∙ or_none (is_bound lane name)
+
+-- where no number is bound no name is
+bound_none : (o : Option ℕ) → is_some (if_bound [] o) ≡ false
+bound_none None = refl
+bound_none (Some i) = refl
+
+-- ---- a step of a lane
+
+-- what is bound after something was done
+abbrev bound_by : List ℕ → Does → Bool → Bool
+bound_by name what was = (was && not (is_close what)) || binds_name name what
+
+kept : (b : Bool) → b ≡ ((b && true) || false)
+kept true = refl
+kept false = refl
+
+binds : (b c : Bool) → (b || c) ≡ ((b && true) || c)
+binds true c = refl
+binds false c = refl
+
+closed : (b : Bool) → false ≡ ((b && false) || false)
+closed true = refl
+closed false = refl
+
+module _ (lane : LaneNames) (name : List ℕ) where
+  -- an answer tells what is bound
+  abbrev Tells : Bool → Result (LaneNames × Cmd) Cause → Type 0
+  Tells now r = (left : LaneNames) (command : Cmd) → r ≡ Ok (left, command) → is_bound left name ≡ now
+
+  tells : (now : Bool) (left : LaneNames) (command : Cmd) → is_bound left name ≡ now → Tells now (Ok (left, command))
+  tells now left command is other more e = ap (λ (l : LaneNames). is_bound l name) (sym (ap (λ (r : LaneNames × Cmd). r.0) (ok_same e))) ∙ is
+
+  fails : (now : Bool) (why : Cause) → Tells now (Err why)
+  fails now why left command e = err_ok e
+
+  either : (now b : Bool) (r s : Result (LaneNames × Cmd) Cause) → Tells now r → Tells now s → Tells now (cond b r s)
+  either now true r s x y = x
+  either now false r s x y = y
+
+  -- the lane is what it was
+  same : is_bound lane name ≡ bound_by name does.Open (is_bound lane name)
+  same = kept (is_bound lane name)
+
+  new_tells : (var : List ℕ) (o : Option ClassId) → Tells ((is_bound lane name && true) || bytes_eq name var) (bound_new lane var o)
+  new_tells var None = fails _ cause.UnknownName
+  new_tells var (Some class) = tells _ _ _ (bound_more lane.opened lane var name ∙ binds (is_bound lane name) (bytes_eq name var))
+
+  root_tells : (on : Bool) (o : Option ℕ) → Tells ((is_bound lane name && true) || false) (root_of lane on o)
+  root_tells on None = fails _ cause.UnknownName
+  root_tells on (Some n) = tells _ _ _ same
+
+  print_tells : (o : Option ℕ) → Tells ((is_bound lane name && true) || false) (print_of lane o)
+  print_tells None = fails _ cause.UnknownName
+  print_tells (Some n) = tells _ _ _ same
+
+  set_tells : (s : Option Spot) (t : Option (Option ℕ)) → Tells ((is_bound lane name && true) || false) (set_at lane s t)
+  set_tells None t = fails _ cause.UnknownName
+  set_tells (Some spot) None = fails _ cause.UnknownName
+  set_tells (Some spot) (Some to) = tells _ _ _ same
+
+  set_in_tells : (fields : List (List ℕ)) (place : Place) (to : Option (List ℕ)) (o : Option ℕ) → Tells ((is_bound lane name && true) || false) (set_in fields lane place to o)
+  set_in_tells fields place to None = fails _ cause.Number
+  set_in_tells fields place to (Some element) = either _ lane.opened _ _ (set_tells (spot_found lane fields place element) (bound_target lane to)) (fails _ cause.Frame)
+
+  get_tells : (var : List ℕ) (s : Option Spot) → Tells ((is_bound lane name && true) || bytes_eq name var) (get_at lane var s)
+  get_tells var None = fails _ cause.UnknownName
+  get_tells var (Some spot) = tells _ _ _ (bound_more lane.opened lane var name ∙ binds (is_bound lane name) (bytes_eq name var))
+
+  get_in_tells : (fields : List (List ℕ)) (var : List ℕ) (place : Place) (o : Option ℕ) → Tells ((is_bound lane name && true) || bytes_eq name var) (get_in fields lane var place o)
+  get_in_tells fields var place None = fails _ cause.Number
+  get_in_tells fields var place (Some element) = either _ lane.opened _ _ (get_tells var (spot_found lane fields place element)) (fails _ cause.Frame)
+
+  put_tells : (value : ℕ) (s : Option Spot) → Tells ((is_bound lane name && true) || false) (put_at lane value s)
+  put_tells value None = fails _ cause.UnknownName
+  put_tells value (Some spot) = tells _ _ _ same
+
+  put_in_tells : (fields : List (List ℕ)) (place : Place) (o value : Option ℕ) → Tells ((is_bound lane name && true) || false) (put_in fields lane place o value)
+  put_in_tells fields place None value = fails _ cause.Number
+  put_in_tells fields place (Some element) None = fails _ cause.Number
+  put_in_tells fields place (Some element) (Some value) = either _ lane.opened _ _ (put_tells value (spot_found lane fields place element)) (fails _ cause.Frame)
+
+  take_tells : (s : Option Spot) → Tells ((is_bound lane name && true) || false) (take_at lane s)
+  take_tells None = fails _ cause.UnknownName
+  take_tells (Some spot) = tells _ _ _ same
+
+  take_in_tells : (fields : List (List ℕ)) (place : Place) (o : Option ℕ) → Tells ((is_bound lane name && true) || false) (take_in fields lane place o)
+  take_in_tells fields place None = fails _ cause.Number
+  take_in_tells fields place (Some element) = either _ lane.opened _ _ (take_tells (spot_found lane fields place element)) (fails _ cause.Frame)
+
+  -- Each thing that a lane does binds the names that it says, and a close ends all.
+  step_tells : (classes : List Class) (fields : List (List ℕ)) (what : Does) → Tells (bound_by name what (is_bound lane name)) (lane_step classes fields lane what)
+  step_tells classes fields does.Open = either _ lane.opened _ _ (fails _ cause.Frame) (tells _ _ _ same)
+  step_tells classes fields does.Close = either _ lane.opened _ _ (tells _ _ _ (bound_none (number_of_name lane.names name) ∙ closed (is_bound lane name))) (fails _ cause.Frame)
+  step_tells classes fields (does.New var class) = either _ lane.opened _ _ (new_tells var (find_class classes class)) (fails _ cause.Frame)
+  step_tells classes fields (does.Root var on) = either _ lane.opened _ _ (root_tells on (bound_var lane var)) (fails _ cause.Frame)
+  step_tells classes fields (does.Set place to) = set_in_tells fields place to (element_in place.element)
+  step_tells classes fields (does.Get var place) = get_in_tells fields var place (element_in place.element)
+  step_tells classes fields (does.Put place value) = put_in_tells fields place (element_in place.element) value
+  step_tells classes fields (does.Take place) = take_in_tells fields place (element_in place.element)
+  step_tells classes fields (does.Print var) = either _ lane.opened _ _ (print_tells (bound_var lane var)) (fails _ cause.Frame)
+
+-- ---- a line
+
+-- a line of the header says nothing of a lane
+class_names_quiet : (index : ℕ) (such : Does → Bool) (o p : Option (List ℕ)) → says_of index such (class_names o p) ≡ false
+class_names_quiet index such None p = refl
+class_names_quiet index such (Some name) None = refl
+class_names_quiet index such (Some name) (Some parent) = refl
+
+class_words_quiet : (index : ℕ) (such : Does → Bool) (o : Option (List ℕ × List ℕ)) → says_of index such (class_words o) ≡ false
+class_words_quiet index such None = refl
+class_words_quiet index such (Some (name, parent)) = class_names_quiet index such (identifier_of name) (identifier_of parent)
+
+class_quiet : (index : ℕ) (such : Does → Bool) (in_header : Bool) (words : List (List ℕ)) → says_of index such (class_line in_header words) ≡ false
+class_quiet index such false words = refl
+class_quiet index such true words = class_words_quiet index such (pair_of words)
+
+field_said_quiet : (index : ℕ) (such : Does → Bool) (class name : List ℕ) (what : FieldOf) (r : Result (Option (Option ℕ)) Cause) → says_of index such (field_said class name what r) ≡ false
+field_said_quiet index such class name what (Ok count) = refl
+field_said_quiet index such class name what (Err why) = refl
+
+field_elements_quiet : (index : ℕ) (such : Does → Bool) (class name : List ℕ) (o : Option (FieldOf × List (List ℕ))) → says_of index such (field_elements class name o) ≡ false
+field_elements_quiet index such class name None = refl
+field_elements_quiet index such class name (Some (what, words)) = field_said_quiet index such class name what (count_of words)
+
+field_words_quiet : (index : ℕ) (such : Does → Bool) (o : Option (List ℕ × List ℕ × List (List ℕ))) → says_of index such (field_words o) ≡ false
+field_words_quiet index such None = refl
+field_words_quiet index such (Some (class, name, words)) = field_elements_quiet index such class name (field_of words)
+
+field_quiet : (index : ℕ) (such : Does → Bool) (in_header : Bool) (words : List (List ℕ)) → says_of index such (field_line in_header words) ≡ false
+field_quiet index such false words = refl
+field_quiet index such true words = field_words_quiet index such (two_names words)
+
+-- a choice of two pairs of answers that say the same
+alike : (index : ℕ) (such : Does → Bool) (b : Bool) (r s t u : Result Said Cause) → says_of index such r ≡ says_of index such t → says_of index such s ≡ says_of index such u
+    → says_of index such (cond b r s) ≡ says_of index such (cond b t u)
+alike index such true r s t u x y = x
+alike index such false r s t u x y = y
+
+-- what a line says of a lane is the same in the header and after it
+words_alike : (index : ℕ) (such : Does → Bool) (in_header : Bool) (words : List (List ℕ)) → says_of index such (said_by_words in_header words) ≡ says_of index such (said_by_words false words)
+words_alike index such in_header [] = refl
+words_alike index such in_header (word ∷ words) =
+    alike index such (is_comment word) _ _ _ _ refl
+    (alike index such (bytes_eq word (codes "class")) _ _ _ _ (class_quiet index such in_header words ∙ sym (class_quiet index such false words))
+    (alike index such (bytes_eq word (codes "field")) _ _ _ _ (field_quiet index such in_header words ∙ sym (field_quiet index such false words)) refl))
+
+line_alike : (index : ℕ) (such : Does → Bool) (in_header : Bool) (line : List ℕ) → says_of index such (said_by_line in_header line) ≡ line_of index such line
+line_alike index such in_header line = alike index such (is_utf8 line) _ _ _ _ (words_alike index such in_header (line_words line)) refl
+
+-- what is bound of a name in a lane after a line that says this
+abbrev said_bound : ℕ → List ℕ → Result Said Cause → Bool → Bool
+said_bound index name r was = (was && not (says_of index is_close r)) || says_of index (binds_name name) r
+
+-- a lane of the context after a line was there before, and what is bound in it is what the line leaves
+abbrev Leaves : ℕ → List ℕ → Result Said Cause → Context → Context → Type 0
+Leaves index name r c next = (left : LaneNames) → slice_get next.lanes index ≡ Some left → (lane : LaneNames) × (slice_get c.lanes index ≡ Some lane) × (is_bound left name ≡ said_bound index name r (is_bound lane name))
+
+-- the lanes are what they were
+leaves_same : (index : ℕ) (name : List ℕ) (r : Result Said Cause) (c next : Context) → says_of index is_close r ≡ false → says_of index (binds_name name) r ≡ false → next.lanes ≡ c.lanes → Leaves index name r c next
+leaves_same index name r c next no_close no_bind same left e =
+    (left, sym (ap (λ (ls : List LaneNames). slice_get ls index) same) ∙ e, kept (is_bound left name) ∙ (λ i. (is_bound left name && not (sym no_close i)) || sym no_bind i))
+
+with_classes_leaves : (c next : Context) (r : Result Schema SchemaErr) → with_classes c r ≡ Ok next → next.lanes ≡ c.lanes
+with_classes_leaves c next (Ok classes) e = sym (ap (λ (d : Context). d.lanes) (ok_same e))
+with_classes_leaves c next (Err why) e = err_ok e
+
+with_named_leaves : (c next : Context) (name : List ℕ) (r : Result Schema SchemaErr) → with_named c name r ≡ Ok next → next.lanes ≡ c.lanes
+with_named_leaves c next name (Ok classes) e = sym (ap (λ (d : Context). d.lanes) (ok_same e))
+with_named_leaves c next name (Err why) e = err_ok e
+
+field_leaves : (c next : Context) (number : ℕ) (name : List ℕ) (count : ℕ) (class : Option ClassId) (what : Option FieldKind) → field_known number c name count class what ≡ Ok next → next.lanes ≡ c.lanes
+field_leaves c next number name count None what e = err_ok e
+field_leaves c next number name count (Some class) None e = err_ok e
+field_leaves c next number name count (Some class) (Some what) e = with_named_leaves c next name (field_added c.classes class (record { name = name; line = number; kind = what; count = count })) e
+
+counted_leaves : (c next : Context) (number : ℕ) (class name : List ℕ) (what : FieldOf) (o : Option ℕ) → field_counted number c class name what o ≡ Ok next → next.lanes ≡ c.lanes
+counted_leaves c next number class name what None e = err_ok e
+counted_leaves c next number class name what (Some count) e = field_leaves c next number name count (find_class c.classes.classes class) (kind_found c.classes.classes what) e
+
+-- a lane's line
+eq_other : (i k : ℕ) → (i ≡ k → ⊥) → (i == k) ≡ false
+eq_other i k ne = false_from_ne_true _ (λ e. ne (eqb-true i k e))
+
+step_leaves : (index : ℕ) (name : List ℕ) (number at : ℕ) (what : Does) (c next : Context) (lane : LaneNames) (r : Result (LaneNames × Cmd) Cause) → slice_get c.lanes at ≡ Some lane → lane_step c.classes.classes c.fields lane what ≡ r
+    → with_lane number c at r ≡ Ok next → Leaves index name (Ok (said.Lane (Some at) what)) c next
+step_leaves index name number at what c next lane (Err why) is step e = err_ok e
+step_leaves index name number at what c next lane (Ok (now, command)) is step e = λ left there.
+    go left (set_cases c.lanes at index now left (ap (λ (d : Context). slice_get d.lanes index) (ok_same e) ∙ there))
+  where
+    go : (left : LaneNames) → ((index ≡ at) × (left ≡ now)) ⊎ ((at ≡ index → ⊥) × (slice_get c.lanes index ≡ Some left))
+        → (old : LaneNames) × (slice_get c.lanes index ≡ Some old) × (is_bound left name ≡ said_bound index name (Ok (said.Lane (Some at) what)) (is_bound old name))
+    go left (inl (here, is_now)) =
+        let own : (at == index) ≡ true = eq-eqb at index (sym here) in (
+          lane,
+          ap (slice_get c.lanes) here ∙ is,
+          ap (λ (l : LaneNames). is_bound l name) is_now ∙ step_tells lane name c.classes.classes c.fields what now command step
+              ∙ (λ i. (is_bound lane name && not (sym own i && is_close what)) || (sym own i && binds_name name what)),
+        )
+    go left (inr (other, stays)) =
+        let apart : (at == index) ≡ false = eq_other at index other in
+        (left, stays, kept (is_bound left name) ∙ (λ i. (is_bound left name && not (sym apart i && is_close what)) || (sym apart i && binds_name name what)))
+
+lane_leaves : (index : ℕ) (name : List ℕ) (number at : ℕ) (what : Does) (c next : Context) (o : Option LaneNames) → slice_get c.lanes at ≡ o → lane_at number c at o what ≡ Ok next → Leaves index name (Ok (said.Lane (Some at) what)) c next
+lane_leaves index name number at what c next None is e = err_ok e
+lane_leaves index name number at what c next (Some lane) is e = step_leaves index name number at what c next lane (lane_step c.classes.classes c.fields lane what) is refl e
+
+index_leaves : (index : ℕ) (name : List ℕ) (number : ℕ) (what : Does) (c next : Context) (o : Option ℕ) → lane_of number c (lane_index (length c.lanes) o) what ≡ Ok next → Leaves index name (Ok (said.Lane o what)) c next
+index_leaves index name number what c next None e = err_ok e
+index_leaves index name number what c next (Some at) e = go (nat_lt at (length c.lanes)) e
+  where
+    go : (b : Bool) → lane_of number c (cond b (Some at) None) what ≡ Ok next → Leaves index name (Ok (said.Lane (Some at) what)) c next
+    go true e = lane_leaves index name number at what c next (slice_get c.lanes at) refl e
+    go false e = err_ok e
+
+said_leaves : (index : ℕ) (name : List ℕ) (number : ℕ) (c next : Context) (r : Result Said Cause) → if_said number c r ≡ Ok next → Leaves index name r c next
+said_leaves index name number c next (Err why) e = err_ok e
+said_leaves index name number c next (Ok said.Nothing) e = leaves_same index name (Ok said.Nothing) c next refl refl (sym (ap (λ (d : Context). d.lanes) (ok_same e)))
+said_leaves index name number c next (Ok (said.Class class parent)) e = leaves_same index name (Ok (said.Class class parent)) c next refl refl (with_classes_leaves c next (added c.classes number class parent) e)
+said_leaves index name number c next (Ok (said.Field class field what count)) e = leaves_same index name (Ok (said.Field class field what count)) c next refl refl (counted_leaves c next number class field what (elements_in count) e)
+said_leaves index name number c next (Ok said.Full) e = leaves_same index name (Ok said.Full) c next refl refl (sym (ap (λ (d : Context). d.lanes) (ok_same e)))
+said_leaves index name number c next (Ok (said.Lane lane what)) e = index_leaves index name number what c next lane e
+
+-- what is bound of a name in a lane after a line
+abbrev line_bound : ℕ → List ℕ → List ℕ → Bool → Bool
+line_bound index name line was = (was && not (line_of index is_close line)) || line_of index (binds_name name) line
+
+line_leaves : (index : ℕ) (name : List ℕ) (number : ℕ) (c next : Context) (line : List ℕ) → line_turn number c line ≡ Ok next
+    → (left : LaneNames) → slice_get next.lanes index ≡ Some left → (lane : LaneNames) × (slice_get c.lanes index ≡ Some lane) × (is_bound left name ≡ line_bound index name line (is_bound lane name))
+unfolding line_turn
+line_leaves index name number c next line e left there =
+    let h = said_leaves index name number c next (said_by_line c.in_header line) (short_enough (nat_lt 200000 number) (turn number c line) next e) left there in
+    (h.0, h.1, h.2 ∙ (λ i. (is_bound h.0 name && not (line_alike index is_close c.in_header line i)) || line_alike index (binds_name name) c.in_header line i))
+
+-- ---- lines
+
+-- what is bound of a name in a lane after lines
+lines_bound : ℕ → List ℕ → Bool → List (List ℕ) → Bool
+lines_bound index name was [] = was
+lines_bound index name was (line ∷ lines) = lines_bound index name (line_bound index name line was) lines
+
+lines_leave : (index : ℕ) (name : List ℕ) (lines : List (List ℕ)) (number : ℕ) (c last : Context) → read_from number c lines ≡ Ok last
+    → (left : LaneNames) → slice_get last.lanes index ≡ Some left → (lane : LaneNames) × (slice_get c.lanes index ≡ Some lane) × (is_bound left name ≡ lines_bound index name (is_bound lane name) lines)
+unfolding read_from lines_bound
+lines_leave index name [] number c last e left there = (left, ap (λ (d : Context). slice_get d.lanes index) (ok_same e) ∙ there, refl)
+lines_leave index name (line ∷ lines) number c last e left there =
+    let h = on_ok number (line_turn number c line) (λ next. read_from (number + 1) next lines) last e in
+    let later = lines_leave index name lines (number + 1) h.0 last h.2 left there in
+    let now = line_leaves index name number c h.0 line h.1 later.0 later.1 in
+    (now.0, now.1, later.2 ∙ ap (λ (b : Bool). lines_bound index name b lines) now.2)
+
+-- a line binds it, and none behind ends it; or it was bound, and none ends it
+abbrev StillOr : ℕ → List ℕ → Bool → List (List ℕ) → Type 0
+StillOr index name was lines = ((was ≡ true) × (list_all (λ l. not (line_of index is_close l)) lines ≡ true)) ⊎ IsBoundBy index name lines
+
+or_cases : (a b : Bool) → (a || b) ≡ true → (a ≡ true) ⊎ (b ≡ true)
+or_cases true b e = inl refl
+or_cases false b e = inr e
+
+bound_from : (index : ℕ) (name : List ℕ) (lines : List (List ℕ)) (was : Bool) → lines_bound index name was lines ≡ true → StillOr index name was lines
+unfolding lines_bound
+bound_from index name [] was e = inl (e, refl)
+bound_from index name (line ∷ lines) was e = go (bound_from index name lines (line_bound index name line was) e)
+  where
+    by : ((was && not (line_of index is_close line)) ≡ true) ⊎ (line_of index (binds_name name) line ≡ true) → list_all (λ l. not (line_of index is_close l)) lines ≡ true → StillOr index name was (line ∷ lines)
+    by (inl h) rest = let parts = both was (not (line_of index is_close line)) h in inl (parts.0, and_both _ _ parts.1 rest)
+    by (inr h) rest = inr (record { front = []; line = line; behind = lines; are = refl; binds = h; kept = rest })
+
+    go : StillOr index name (line_bound index name line was) lines → StillOr index name was (line ∷ lines)
+    go (inl h) = by (or_cases _ _ h.0) h.1
+    go (inr h) = inr (record { front = line ∷ h.front; line = h.line; behind = h.behind; are = ap (λ (ls : List (List ℕ)). line ∷ ls) h.are; binds = h.binds; kept = h.kept })
+
+-- what is bound stays it where none ends it
+stays_bound : (index : ℕ) (name : List ℕ) (lines : List (List ℕ)) → list_all (λ l. not (line_of index is_close l)) lines ≡ true → lines_bound index name true lines ≡ true
+unfolding lines_bound
+stays_bound index name [] h = refl
+stays_bound index name (line ∷ lines) h =
+    let parts = both (not (line_of index is_close line)) _ h in
+    ap (λ (b : Bool). lines_bound index name (b || line_of index (binds_name name) line) lines) parts.0 ∙ stays_bound index name lines parts.1
+
+bound_to : (index : ℕ) (name : List ℕ) (front : List (List ℕ)) (line : List ℕ) (behind : List (List ℕ)) (was : Bool) → line_of index (binds_name name) line ≡ true → list_all (λ l. not (line_of index is_close l)) behind ≡ true
+    → lines_bound index name was (front ++ line ∷ behind) ≡ true
+unfolding lines_bound
+bound_to index name [] line behind was binds still = ap (λ (b : Bool). lines_bound index name b behind) (last (was && not (line_of index is_close line)) _ binds) ∙ stays_bound index name behind still
+  where
+    last : (a b : Bool) → b ≡ true → (a || b) ≡ true
+    last true b e = refl
+    last false b e = e
+bound_to index name (l ∷ front) line behind was binds still = bound_to index name front line behind (line_bound index name l was) binds still
+
+-- at first nothing is bound
+first_lane : (n index : ℕ) (lane : LaneNames) → slice_get (replicate n closed_lane) index ≡ Some lane → lane ≡ closed_lane
+first_lane zero index lane e = absurd cc
+first_lane (suc n) zero lane e = sym (some_same e)
+first_lane (suc n) (suc index) lane e = first_lane n index lane e
+
+pub bound_by_lines_holds : BoundByLines
+bound_by_lines_holds limits lines c read index lane there name =
+    let h = lines_leave index name lines 1 (start limits) c read lane there in
+    let none : is_bound h.0 name ≡ false = ap (λ (l : LaneNames). is_bound l name) (first_lane limits.lanes index h.0 h.1) ∙ bound_none (number_of_name [] name) in
+    let all : is_bound lane name ≡ lines_bound index name false lines = h.2 ∙ ap (λ (b : Bool). lines_bound index name b lines) none in
+    (λ is. from (bound_from index name lines false (sym all ∙ is)), λ by. all ∙ ap (lines_bound index name false) by.are ∙ bound_to index name by.front by.line by.behind false by.binds by.kept)
+  where
+    from : StillOr index name false lines → IsBoundBy index name lines
+    from (inl h) = absurd (let wrong : false ≡ true = h.0 in cc)
+    from (inr h) = h
