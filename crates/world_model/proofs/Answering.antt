@@ -187,7 +187,7 @@ dissolves : (z : Sizes) (history : List Entry) (lane : ℕ) (at : Name) → Lega
     → CanAppend z history (Lane lane) (act.Dissolve at (length (unit_of (after history) at)))
 dissolves z history lane at legal lane_in ask unmarked = record {
   new = history ++ by (Lane lane) (map act.Loose ready.0 ++ act.Dissolve at (length unit) ∷ []);
-  call = solo z history (Lane lane) (act.Dissolve at (length unit)) (map act.Loose ready.0 ++ act.Dissolve at (length unit) ∷ []) (record { whole = ask.none_broken; of = ready.0; are = refl }) legal all_legal;
+  call = solo z history (Lane lane) (act.Dissolve at (length unit)) (map act.Loose ready.0 ++ act.Dissolve at (length unit) ∷ []) (record { of = ready.0; are = refl }, ask.none_broken) legal all_legal;
 }
   where
     s : State
@@ -218,7 +218,7 @@ dissolve_answers_holds z history lane at legal lane_in ask = record {
   apart = dissolves z history lane at legal lane_in ask;
   refused = λ marking. record {
     new = history ++ by (Lane lane) (act.NoDissolve at ∷ []);
-    call = solo z history (Lane lane) (act.NoDissolve at) (act.NoDissolve at ∷ []) refl legal (
+    call = solo z history (Lane lane) (act.NoDissolve at) (act.NoDissolve at ∷ []) (refl, tt) legal (
       record {
         in_range = lane_in;
         frame = record { opened = (barred z history legal).holding.opened lane at ask.held; continues = rw ask.none_owed tt; parts = rw ask.none_broken tt };

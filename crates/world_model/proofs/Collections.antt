@@ -8,7 +8,7 @@ use Rattle.world_model.specs.Reach.{graph}
 use Rattle.world_model.specs.State.{State, Marks}
 use Rattle.world_model.specs.Next.{next_world, next, run}
 use Rattle.world_model.specs.Histories.{state_of, after, Legal}
-use Rattle.world_model.specs.Calls.{by, is_mark_note, SlicesAlone, SlicesUntilIdle}
+use Rattle.world_model.specs.Calls.{by, is_mark_note, SliceEntries, Slice, by_marker, SlicesUntilIdle}
 use Rattle.world_model.specs.Laws.{is_quiet, started, done, KeepsReached, CollectIsExact}
 use Rattle.world_model.proofs.ListFacts.{and_true}
 use Rattle.world_model.proofs.Joins.{run-append, by-append}
@@ -38,16 +38,16 @@ notes_mark : (p : Pass) (notes : List Act) → list_all is_mark_note notes ≡ t
 notes_mark p [] h = tt
 notes_mark p (a ∷ notes) h = let parts = and_true _ _ h in (note_marks a parts.0, notes_mark p notes parts.1)
 
-pub slice_marks : (s : State) (marker budget : ℕ) (reply : Marked) (acts : List Act) → SlicesAlone s marker budget reply acts → AllMark (by (Marker marker) acts)
-slice_marks s marker budget reply acts h =
+pub slice_marks : (marker budget : ℕ) (reply : Marked) (acts : List Act) → SliceEntries budget reply acts → AllMark (by (Marker marker) acts)
+slice_marks marker budget reply acts h =
     subst (λ (some : List Act). AllMark (by (Marker marker) some)) (sym h.are)
     (subst AllMark (sym (by-append (Marker marker) (act.SliceOpen ∷ h.notes) (act.Slice budget reply ∷ [])))
     (all_append (by (Marker marker) (act.SliceOpen ∷ h.notes)) (by (Marker marker) (act.Slice budget reply ∷ [])) (refl, notes_mark (Marker marker) h.notes h.only) (refl, tt)))
 
-pub slices_mark : (s : State) (budget : ℕ) (slices : List (List Act)) → SlicesUntilIdle s budget slices → AllMark (flat_map (by (Marker 0)) slices)
+pub slices_mark : (s : State) (budget : ℕ) (slices : List Slice) → SlicesUntilIdle s budget slices → AllMark (flat_map by_marker slices)
 slices_mark s budget [] h = tt
-slices_mark s budget (last ∷ []) h = all_append (by (Marker 0) last) [] (slice_marks s 0 budget _ last h.1) tt
-slices_mark s budget (acts ∷ next ∷ rest) h = all_append (by (Marker 0) acts) _ (slice_marks s 0 budget _ acts h.1) (slices_mark (run s (by (Marker 0) acts)) budget (next ∷ rest) h.2)
+slices_mark s budget (last ∷ []) h = all_append (by_marker last) [] (slice_marks last.marker budget _ last.acts h.1.0) tt
+slices_mark s budget (slice ∷ next ∷ rest) h = all_append (by_marker slice) _ (slice_marks slice.marker budget _ slice.acts h.1.0) (slices_mark (run s (by_marker slice)) budget (next ∷ rest) h.2)
 
 pub keeps_mark : (of : List Name) → AllMark (by Collector (map act.Kept of))
 keeps_mark [] = tt
@@ -77,14 +77,14 @@ all_keep s (e ∷ entries) h = all_keep (next s e) entries h.1 ∙ marking_keeps
 
 pub collect_is_exact_holds : CollectIsExact
 collect_is_exact_holds z old new budget h =
-    let notes : List Entry = by Collector (map act.Kept h.begun.of) in
-    let slices : List Entry = flat_map (by (Marker 0)) h.slices in
+    let notes : List Entry = by Collector (map act.Kept h.begun.0.of) in
+    let slices : List Entry = flat_map by_marker h.slices in
     let during : List Entry = notes ++ slices in
-    let begins : by Collector h.begins ≡ started ∷ notes = ap (by Collector) h.begun.are in
+    let begins : by Collector h.begins ≡ started ∷ notes = ap (by Collector) h.begun.0.are in
     let grown : new ≡ (old ++ started ∷ during) ++ done ∷ [] =
     h.grown ∙ ap (λ (xs : List Entry). (old ++ xs) ++ (slices ++ done ∷ [])) begins ∙ sym (append_assoc (old ++ started ∷ notes) slices (done ∷ []))
     ∙ ap (λ (xs : List Entry). xs ++ done ∷ []) (append_assoc old (started ∷ notes) slices) in
-    let mark : AllMark during = all_append notes slices (keeps_mark h.begun.of) (slices_mark _ budget h.slices h.marked) in
+    let mark : AllMark during = all_append notes slices (keeps_mark h.begun.0.of) (slices_mark _ budget h.slices h.marked) in
     let exact = quiet_is_exact_holds z old during (subst (Legal z) grown h.legal) (all_quiet during mark) in
     let same : graph (after (old ++ started ∷ during)) ≡ graph (after old) =
     ap (λ (s : State). graph s.world) (run-append _ old (started ∷ during)) ∙ all_keep (next (state_of old) started) during mark in

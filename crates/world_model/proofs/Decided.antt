@@ -86,34 +86,34 @@ begin_is_decided_holds z history a b legal_a legal_b =
 -- ---- commit
 
 -- while a collection marks an answer that runs alone is unfinished where a unit is grey
-one_commit : (s : State) (a b : Commit) (xs ys : List Act) → CommitMay s a → CommitMay s b → CommitsAlone s a xs → CommitsAlone s b ys → SameCommit a b
-one_commit s (commit.Unfinished word bits) (commit.Unfinished other others) xs ys f g alone_a alone_b = tt
-one_commit s (commit.Unfinished word bits) commit.Done xs ys f g alone_a alone_b = absurd ((alone_a.unfinished f.marking).0 refl g.black)
-one_commit s (commit.Unfinished word bits) (commit.NotMarking phase) xs ys f g alone_a alone_b = absurd (g.1 (g.0 ∙ f.marking))
-one_commit s (commit.Unfinished word bits) commit.Stores xs ys f g alone_a alone_b = absurd (alone_b.no_stores refl)
-one_commit s (commit.Unfinished word bits) (commit.Frames n) xs ys f g alone_a alone_b = absurd (let wrong : false ≡ true = (alone_b.unfinished f.marking).1 ((alone_a.unfinished f.marking).0 refl) in cc)
-one_commit s commit.Done (commit.Unfinished word bits) xs ys f g alone_a alone_b = absurd ((alone_b.unfinished g.marking).0 refl f.black)
-one_commit s commit.Done commit.Done xs ys f g alone_a alone_b = refl
-one_commit s commit.Done (commit.NotMarking phase) xs ys f g alone_a alone_b = absurd (g.1 (g.0 ∙ f.marking))
-one_commit s commit.Done commit.Stores xs ys f g alone_a alone_b = absurd (alone_b.no_stores refl)
-one_commit s commit.Done (commit.Frames n) xs ys f g alone_a alone_b = absurd (let none : length s.world.opened ≡ 0 = ap length f.closed in let l = g.1.0 in let m = g.1.1 in omega arith)
-one_commit s (commit.NotMarking phase) (commit.Unfinished word bits) xs ys f g alone_a alone_b = absurd (f.1 (f.0 ∙ g.marking))
-one_commit s (commit.NotMarking phase) commit.Done xs ys f g alone_a alone_b = absurd (f.1 (f.0 ∙ g.marking))
-one_commit s (commit.NotMarking phase) (commit.NotMarking other) xs ys f g alone_a alone_b = ap commit.NotMarking (f.0 ∙ sym g.0)
-one_commit s (commit.NotMarking phase) commit.Stores xs ys f g alone_a alone_b = absurd (alone_b.no_stores refl)
-one_commit s (commit.NotMarking phase) (commit.Frames n) xs ys f g alone_a alone_b = absurd (f.1 (f.0 ∙ g.0))
-one_commit s commit.Stores b xs ys f g alone_a alone_b = absurd (alone_a.no_stores refl)
-one_commit s (commit.Frames n) (commit.Unfinished word bits) xs ys f g alone_a alone_b = absurd (let wrong : false ≡ true = (alone_a.unfinished g.marking).1 ((alone_b.unfinished g.marking).0 refl) in cc)
-one_commit s (commit.Frames n) commit.Done xs ys f g alone_a alone_b = absurd (let none : length s.world.opened ≡ 0 = ap length g.closed in let l = f.1.0 in let m = f.1.1 in omega arith)
-one_commit s (commit.Frames n) (commit.NotMarking phase) xs ys f g alone_a alone_b = absurd (g.1 (g.0 ∙ f.0))
-one_commit s (commit.Frames n) commit.Stores xs ys f g alone_a alone_b = absurd (alone_b.no_stores refl)
-one_commit s (commit.Frames n) (commit.Frames other) xs ys f g alone_a alone_b = ap commit.Frames (f.1.0 ∙ sym g.1.0)
+one_commit : (s : State) (a b : Commit) → CommitMay s a → CommitMay s b → CommitsAlone s a → CommitsAlone s b → SameCommit a b
+one_commit s (commit.Unfinished word bits) (commit.Unfinished other others) f g alone_a alone_b = tt
+one_commit s (commit.Unfinished word bits) commit.Done f g alone_a alone_b = absurd ((alone_a.unfinished f.marking).0 refl g.black)
+one_commit s (commit.Unfinished word bits) (commit.NotMarking phase) f g alone_a alone_b = absurd (g.1 (g.0 ∙ f.marking))
+one_commit s (commit.Unfinished word bits) commit.Stores f g alone_a alone_b = absurd (alone_b.no_stores refl)
+one_commit s (commit.Unfinished word bits) (commit.Frames n) f g alone_a alone_b = absurd (let wrong : false ≡ true = (alone_b.unfinished f.marking).1 ((alone_a.unfinished f.marking).0 refl) in cc)
+one_commit s commit.Done (commit.Unfinished word bits) f g alone_a alone_b = absurd ((alone_b.unfinished g.marking).0 refl f.black)
+one_commit s commit.Done commit.Done f g alone_a alone_b = refl
+one_commit s commit.Done (commit.NotMarking phase) f g alone_a alone_b = absurd (g.1 (g.0 ∙ f.marking))
+one_commit s commit.Done commit.Stores f g alone_a alone_b = absurd (alone_b.no_stores refl)
+one_commit s commit.Done (commit.Frames n) f g alone_a alone_b = absurd (let none : length s.world.opened ≡ 0 = ap length f.closed in let l = g.1.0 in let m = g.1.1 in omega arith)
+one_commit s (commit.NotMarking phase) (commit.Unfinished word bits) f g alone_a alone_b = absurd (f.1 (f.0 ∙ g.marking))
+one_commit s (commit.NotMarking phase) commit.Done f g alone_a alone_b = absurd (f.1 (f.0 ∙ g.marking))
+one_commit s (commit.NotMarking phase) (commit.NotMarking other) f g alone_a alone_b = ap commit.NotMarking (f.0 ∙ sym g.0)
+one_commit s (commit.NotMarking phase) commit.Stores f g alone_a alone_b = absurd (alone_b.no_stores refl)
+one_commit s (commit.NotMarking phase) (commit.Frames n) f g alone_a alone_b = absurd (f.1 (f.0 ∙ g.0))
+one_commit s commit.Stores b f g alone_a alone_b = absurd (alone_a.no_stores refl)
+one_commit s (commit.Frames n) (commit.Unfinished word bits) f g alone_a alone_b = absurd (let wrong : false ≡ true = (alone_a.unfinished g.marking).1 ((alone_b.unfinished g.marking).0 refl) in cc)
+one_commit s (commit.Frames n) commit.Done f g alone_a alone_b = absurd (let none : length s.world.opened ≡ 0 = ap length g.closed in let l = f.1.0 in let m = f.1.1 in omega arith)
+one_commit s (commit.Frames n) (commit.NotMarking phase) f g alone_a alone_b = absurd (g.1 (g.0 ∙ f.0))
+one_commit s (commit.Frames n) commit.Stores f g alone_a alone_b = absurd (alone_b.no_stores refl)
+one_commit s (commit.Frames n) (commit.Frames other) f g alone_a alone_b = ap commit.Frames (f.1.0 ∙ sym g.1.0)
 
 pub commit_is_decided_holds : CommitIsDecided
 commit_is_decided_holds z old new other a b f g =
-    let may_a = (subst (LegalFrom z (state_of old)) (ap (by Collector) f.call.are) (legal_call z old new Collector (act.CommitGc a) f)).0 in
-    let may_b = (subst (LegalFrom z (state_of old)) (ap (by Collector) g.call.are) (legal_call z old other Collector (act.CommitGc b) g)).0 in
-    one_commit (state_of old) a b f.acts g.acts may_a.may may_b.may f.call g.call
+    let may_a = (subst (LegalFrom z (state_of old)) (ap (by Collector) f.call.0) (legal_call z old new Collector (act.CommitGc a) f)).0 in
+    let may_b = (subst (LegalFrom z (state_of old)) (ap (by Collector) g.call.0) (legal_call z old other Collector (act.CommitGc b) g)).0 in
+    one_commit (state_of old) a b may_a.may may_b.may f.call.1 g.call.1
 
 -- ---- create
 

@@ -323,19 +323,19 @@ pub dissolves_unit_holds : DissolvesUnit
 dissolves_unit_holds z old new lane at count h =
     let s = state_of old in
     let last : Entry = entry (Lane lane) (act.Dissolve at count) in
-    let entries : by (Lane lane) h.acts ≡ leaving lane h.call.of ++ last ∷ [] = ap (by (Lane lane)) h.call.are ∙ by-append (Lane lane) (map act.Loose h.call.of) (act.Dissolve at count ∷ []) in
-    let call : LegalFrom z s (leaving lane h.call.of ++ last ∷ []) = subst (LegalFrom z s) entries (legal_call z old new (Lane lane) (act.Dissolve at count) h) in
-    let pieces = legal_split z s (leaving lane h.call.of) (last ∷ []) call in
+    let entries : by (Lane lane) h.acts ≡ leaving lane h.call.0.of ++ last ∷ [] = ap (by (Lane lane)) h.call.0.are ∙ by-append (Lane lane) (map act.Loose h.call.0.of) (act.Dissolve at count ∷ []) in
+    let call : LegalFrom z s (leaving lane h.call.0.of ++ last ∷ []) = subst (LegalFrom z s) entries (legal_call z old new (Lane lane) (act.Dissolve at count) h) in
+    let pieces = legal_split z s (leaving lane h.call.0.of) (last ∷ []) call in
     let start : Legal z old = (legal_split z beginning old (by (Lane lane) h.acts) (subst (Legal z) h.grown h.legal)).0 in
-    let middle : Legal z (old ++ leaving lane h.call.of) = legal_join z beginning old (leaving lane h.call.of) start pieces.0 in
-    let joined : state_of (old ++ leaving lane h.call.of) ≡ run s (leaving lane h.call.of) = run-append beginning old (leaving lane h.call.of) in
-    let own : Parting (run s (leaving lane h.call.of)).world lane ((run s (leaving lane h.call.of)).frames lane) =
-    subst (λ (t : State). Parting t.world lane (t.frames lane)) joined (parting z (old ++ leaving lane h.call.of) middle lane) in
-    let alone = broken_alone (run s (leaving lane h.call.of)) lane at count ((run s (leaving lane h.call.of)).frames lane).broken ((run s (leaving lane h.call.of)).frames lane).loosened own pieces.1.0.may.loose in
-    let parted = unit_is z s lane at count (units_apart z old start) h.call.whole h.call.of pieces.0 pieces.1.0.may.loose alone in
-    let left : state_of new ≡ next (run s (leaving lane h.call.of)) last =
-    state_after z old new (Lane lane) (act.Dissolve at count) h ∙ ap (run s) entries ∙ run-append s (leaving lane h.call.of) (last ∷ []) in
-    let world : after new ≡ (run s (leaving lane h.call.of)).world = ap (λ (t : State). t.world) left in
+    let middle : Legal z (old ++ leaving lane h.call.0.of) = legal_join z beginning old (leaving lane h.call.0.of) start pieces.0 in
+    let joined : state_of (old ++ leaving lane h.call.0.of) ≡ run s (leaving lane h.call.0.of) = run-append beginning old (leaving lane h.call.0.of) in
+    let own : Parting (run s (leaving lane h.call.0.of)).world lane ((run s (leaving lane h.call.0.of)).frames lane) =
+    subst (λ (t : State). Parting t.world lane (t.frames lane)) joined (parting z (old ++ leaving lane h.call.0.of) middle lane) in
+    let alone = broken_alone (run s (leaving lane h.call.0.of)) lane at count ((run s (leaving lane h.call.0.of)).frames lane).broken ((run s (leaving lane h.call.0.of)).frames lane).loosened own pieces.1.0.may.loose in
+    let parted = unit_is z s lane at count (units_apart z old start) h.call.1 h.call.0.of pieces.0 pieces.1.0.may.loose alone in
+    let left : state_of new ≡ next (run s (leaving lane h.call.0.of)) last =
+    state_after z old new (Lane lane) (act.Dissolve at count) h ∙ ap (run s) entries ∙ run-append s (leaving lane h.call.0.of) (last ∷ []) in
+    let world : after new ≡ (run s (leaving lane h.call.0.of)).world = ap (λ (t : State). t.world) left in
     record {
       count_is = parted.0;
       alone = λ n k.

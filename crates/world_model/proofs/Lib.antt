@@ -9,6 +9,7 @@ pub mod Units
 pub mod Quiet
 pub mod Collections
 pub mod Solo
+pub mod Between
 pub mod Worked
 pub mod Busy
 pub mod Refused

@@ -14,7 +14,7 @@ use Rattle.world_model.specs.Next.{next, run}
 use Rattle.world_model.specs.MarkerSteps.{member_count}
 use Rattle.world_model.specs.CollectorSteps.{CommitMay}
 use Rattle.world_model.specs.Histories.{MayBy, LegalFrom, state_of, after}
-use Rattle.world_model.specs.Calls.{by, is_mark_note, SlicesAlone, CommitsAlone, Appends}
+use Rattle.world_model.specs.Calls.{by, is_mark_note, SliceEntries, CommitsAlone, Appends}
 use Rattle.world_model.proofs.ListFacts.{and_true, or_true, or_right, Among}
 use Rattle.world_model.proofs.NameFacts.{same_name_true, same_name_refl, found_unit, set_at_same}
 use Rattle.world_model.proofs.Joins.{run-append, by-append, legal_split}
@@ -140,7 +140,7 @@ notes_scan z s marker (a ∷ notes) all legal =
     joined s t u a b (inr e) f = inr (omega (arith, b, e))
 
 -- a slice that scans something leaves less to scan
-pub slice_progress : (z : Sizes) (s : State) (marker budget : ℕ) (reply : Marked) (acts : List Act) → SlicesAlone s marker budget reply acts → LegalFrom z s (by (Marker marker) acts) → 0 < reply.scanned
+pub slice_progress : (z : Sizes) (s : State) (marker budget : ℕ) (reply : Marked) (acts : List Act) → SliceEntries budget reply acts → LegalFrom z s (by (Marker marker) acts) → 0 < reply.scanned
     → left_to_scan (run s (by (Marker marker) acts)) < left_to_scan s
 slice_progress z s marker budget reply acts h legal some =
     let opening : List Act = act.SliceOpen ∷ h.notes in
@@ -169,13 +169,13 @@ slice_progress z s marker budget reply acts h legal some =
 pub started_world : (z : Sizes) (old new : List Entry) → Appends z old new Collector (act.BeginGc begin.Started) → ((after new).phase ≡ Marking) × ((after new).opened ≡ [])
 started_world z old new h =
     let start : Entry = record { pass = Collector; act = act.BeginGc begin.Started } in
-    let notes : List Act = map act.Kept h.call.of in
-    let entries : by Collector h.acts ≡ start ∷ by Collector notes = ap (by Collector) h.call.are in
+    let notes : List Act = map act.Kept h.call.0.of in
+    let entries : by Collector h.acts ≡ start ∷ by Collector notes = ap (by Collector) h.call.0.are in
     let may = (subst (LegalFrom z (state_of old)) entries (legal_call z old new Collector (act.BeginGc begin.Started) h)).0 in
     let left : state_of new ≡ run (next (state_of old) start) (by Collector notes) = state_after z old new Collector (act.BeginGc begin.Started) h ∙ ap (run (state_of old)) entries in
-    let leaves = marks_leave (next (state_of old) start) (by Collector notes) (keeps_mark h.call.of) in (
+    let leaves = marks_leave (next (state_of old) start) (by Collector notes) (keeps_mark h.call.0.of) in (
       ap (λ (s : State). s.world.phase) left ∙ ap (λ (w : World). w.phase) leaves,
-      ap (λ (s : State). s.world.opened) left ∙ notes_keep (next (state_of old) start) Collector notes (kept_notes h.call.of) ∙ may.may.1,
+      ap (λ (s : State). s.world.opened) left ∙ notes_keep (next (state_of old) start) Collector notes (kept_notes h.call.0.of) ∙ may.may.1,
     )
   where
     kept_notes : (of : List Name) → list_all is_mark_note (map act.Kept of) ≡ true
@@ -187,9 +187,9 @@ pub slice_world : (z : Sizes) (old new : List Entry) (marker budget : ℕ) (repl
     → ((after new).phase ≡ (after old).phase) × ((after old).opened ≡ [] → (after new).opened ≡ [])
 slice_world z old new marker budget reply h =
     let left : state_of new ≡ run (state_of old) (by (Marker marker) h.acts) = state_after z old new (Marker marker) (act.Slice budget reply) h in
-    let leaves = marks_leave (state_of old) (by (Marker marker) h.acts) (slice_marks (state_of old) marker budget reply h.acts h.call) in (
+    let leaves = marks_leave (state_of old) (by (Marker marker) h.acts) (slice_marks marker budget reply h.acts h.call.0) in (
       ap (λ (s : State). s.world.phase) left ∙ ap (λ (w : World). w.phase) leaves,
-      λ none. ap (λ (s : State). s.world.opened) left ∙ slice_opened (state_of old) marker budget reply h.acts h.call ∙ ap (filter (λ q. not (same_pass (Marker marker) q))) none,
+      λ none. ap (λ (s : State). s.world.opened) left ∙ slice_opened (state_of old) marker budget reply h.acts h.call.0 ∙ ap (filter (λ q. not (same_pass (Marker marker) q))) none,
     )
 
 -- what is grey does not hang on the moments
@@ -201,20 +201,20 @@ grey_moments Gathering m moments units = refl
 -- a slice that is idle leaves nothing grey
 pub idle_black : (z : Sizes) (old new : List Entry) (marker budget : ℕ) (reply : Marked) → Appends z old new (Marker marker) (act.Slice budget reply) → reply.stop ≡ stop.Idle → grey_units (state_of new) ≡ []
 idle_black z old new marker budget reply h idle =
-    let opening : List Act = act.SliceOpen ∷ h.call.notes in
+    let opening : List Act = act.SliceOpen ∷ h.call.0.notes in
     let closing : Entry = record { pass = Marker marker; act = act.Slice budget reply } in
-    let entries : by (Marker marker) h.acts ≡ by (Marker marker) opening ++ closing ∷ [] = ap (by (Marker marker)) h.call.are ∙ by-append (Marker marker) opening (act.Slice budget reply ∷ []) in
+    let entries : by (Marker marker) h.acts ≡ by (Marker marker) opening ++ closing ∷ [] = ap (by (Marker marker)) h.call.0.are ∙ by-append (Marker marker) opening (act.Slice budget reply ∷ []) in
     let left : state_of new ≡ next (run (state_of old) (by (Marker marker) opening)) closing =
     state_after z old new (Marker marker) (act.Slice budget reply) h ∙ ap (run (state_of old)) entries ∙ run-append (state_of old) (by (Marker marker) opening) (closing ∷ []) in
     let before : State = run (state_of old) (by (Marker marker) opening) in
-    ap grey_units left ∙ grey_moments before.world.phase before.marks ((next before closing).marks.moments) before.world.units ∙ (h.call.idle.0 idle).1
+    ap grey_units left ∙ grey_moments before.world.phase before.marks ((next before closing).marks.moments) before.world.units ∙ (h.call.1.idle.0 idle).1
 
 -- where nothing is grey and no frame or slice is open, a solo commit is done
-pub commit_done : (s : State) (reply : Commit) (acts : List Act) → CommitsAlone s reply acts → CommitMay s reply → s.world.phase ≡ Marking → s.world.opened ≡ [] → grey_units s ≡ [] → reply ≡ commit.Done
-commit_done s commit.Done acts h may marking closed black = refl
-commit_done s (commit.NotMarking phase) acts h may marking closed black = absurd (may.1 (may.0 ∙ marking))
-commit_done s (commit.Unfinished word bits) acts h may marking closed black = absurd ((h.unfinished marking).0 refl black)
-commit_done s commit.Stores acts h may marking closed black = absurd (h.no_stores refl)
-commit_done s (commit.Frames n) acts h may marking closed black =
+pub commit_done : (s : State) (reply : Commit) → CommitsAlone s reply → CommitMay s reply → s.world.phase ≡ Marking → s.world.opened ≡ [] → grey_units s ≡ [] → reply ≡ commit.Done
+commit_done s commit.Done h may marking closed black = refl
+commit_done s (commit.NotMarking phase) h may marking closed black = absurd (may.1 (may.0 ∙ marking))
+commit_done s (commit.Unfinished word bits) h may marking closed black = absurd ((h.unfinished marking).0 refl black)
+commit_done s commit.Stores h may marking closed black = absurd (h.no_stores refl)
+commit_done s (commit.Frames n) h may marking closed black =
     let none : n ≡ 0 = may.1.0 ∙ ap length closed in
     absurd (let some : 0 < n = may.1.1 in omega arith)

@@ -144,13 +144,13 @@ notes_kept s (m ∷ of) n (inr e) = notes_kept (next s (record { pass = Collecto
 
 pub start_marks_roots_holds : StartMarksRoots
 start_marks_roots_holds z old new h =
-    let notes : List Entry = by Collector (map act.Kept h.call.of) in
-    let left : state_of new ≡ run (next (state_of old) started) notes = state_after z old new Collector (act.BeginGc begin.Started) h ∙ ap (λ (acts : List Act). run (state_of old) (by Collector acts)) h.call.are in
-    let same : graph (run (next (state_of old) started) notes).world ≡ graph (after old) = all_keep (next (state_of old) started) notes (keeps_mark h.call.of) in
+    let notes : List Entry = by Collector (map act.Kept h.call.0.of) in
+    let left : state_of new ≡ run (next (state_of old) started) notes = state_after z old new Collector (act.BeginGc begin.Started) h ∙ ap (λ (acts : List Act). run (state_of old) (by Collector acts)) h.call.0.are in
+    let same : graph (run (next (state_of old) started) notes).world ≡ graph (after old) = all_keep (next (state_of old) started) notes (keeps_mark h.call.0.of) in
     subst RootsMarked (sym left) (λ u unit root.
-    let some = test_among (has u) h.call.of (h.call.each u (subst (λ g. IsUnit g u) same unit) (subst (λ g. IsRootUnit g u) same root)) in
+    let some = test_among (has u) h.call.0.of (h.call.1.each u (subst (λ g. IsUnit g u) same unit) (subst (λ g. IsRootUnit g u) same root)) in
     among_test (λ n. has (run (next (state_of old) started) notes).marks.kept n || has (run (next (state_of old) started) notes).marks.fresh n) u some.0 (has_among u some.0 some.2)
-    (or_left _ _ (notes_kept (next (state_of old) started) h.call.of some.0 (inl some.1))))
+    (or_left _ _ (notes_kept (next (state_of old) started) h.call.0.of some.0 (inl some.1))))
 
 -- when a collection has started, it marks, and its notes change nothing of that
 start_marks : (z : Sizes) (old new : List Entry) → Appends z old new Collector (act.BeginGc begin.Started) → (after new).phase ≡ Marking

@@ -11,7 +11,7 @@ use Rattle.world_model.specs.NameLists.{same_pass}
 use Rattle.world_model.specs.State.{State, beginning}
 use Rattle.world_model.specs.Next.{next, run}
 use Rattle.world_model.specs.Histories.{MayBy, Legal, LegalFrom, state_of, after}
-use Rattle.world_model.specs.Calls.{by, StoresAlone, is_mark_note, SlicesAlone, is_purge_part, CallOf, Appends}
+use Rattle.world_model.specs.Calls.{by, StoreEntries, is_mark_note, SliceEntries, is_purge_part, EntriesOf, CallOf, Appends}
 use Rattle.world_model.specs.Engines.{is_marker, no_slice}
 use Rattle.world_model.proofs.ListFacts.{and_true, or_false, any_filter}
 use Rattle.world_model.proofs.Joins.{run-append, by-append, legal_split, legal_join}
@@ -70,7 +70,7 @@ closed_run z s p (a ∷ acts) legal other none =
 one_opens_none : (a : Act) (acts : List Act) → opens_slice a ≡ false → acts ≡ a ∷ [] → list_any opens_slice acts ≡ false
 one_opens_none a acts e is = subst (λ (xs : List Act). list_any opens_slice xs ≡ false) (sym is) (rw e refl)
 
-store_opens_none : (a : Act) (acts : List Act) → opens_slice a ≡ false → StoresAlone a acts → list_any opens_slice acts ≡ false
+store_opens_none : (a : Act) (acts : List Act) → opens_slice a ≡ false → StoreEntries a acts → list_any opens_slice acts ≡ false
 store_opens_none a acts e (inl is) = one_opens_none a acts e is
 store_opens_none a acts e (inr noted) = subst (λ (xs : List Act). list_any opens_slice xs ≡ false) (sym noted.1) (rw e refl)
 
@@ -104,7 +104,7 @@ notes_keep s p (a ∷ notes) all = let both = and_true _ _ all in notes_keep (ne
     one a is = absurd cc
 
 -- a slice leaves open what was open, but for its marker
-pub slice_opened : (s : State) (marker budget : ℕ) (reply : Marked) (acts : List Act) → SlicesAlone s marker budget reply acts → (run s (by (Marker marker) acts)).world.opened ≡ filter (λ q. not (same_pass (Marker marker) q)) s.world.opened
+pub slice_opened : (s : State) (marker budget : ℕ) (reply : Marked) (acts : List Act) → SliceEntries budget reply acts → (run s (by (Marker marker) acts)).world.opened ≡ filter (λ q. not (same_pass (Marker marker) q)) s.world.opened
 slice_opened s marker budget reply acts h =
     let opening : List Act = act.SliceOpen ∷ h.notes in
     let closing : Entry = record { pass = Marker marker; act = act.Slice budget reply } in
@@ -118,22 +118,23 @@ slice_opened s marker budget reply acts h =
     ∙ ap (λ (b : Bool). cond (not b) (Marker marker ∷ filter (λ q. not (same_pass (Marker marker) q)) s.world.opened) (filter (λ q. not (same_pass (Marker marker) q)) s.world.opened)) own
 
 -- a slice closes itself
-slice_closed : (s : State) (marker budget : ℕ) (reply : Marked) (acts : List Act) → SlicesAlone s marker budget reply acts → NoMarker s.world.opened → NoMarker (run s (by (Marker marker) acts)).world.opened
+slice_closed : (s : State) (marker budget : ℕ) (reply : Marked) (acts : List Act) → SliceEntries budget reply acts → NoMarker s.world.opened → NoMarker (run s (by (Marker marker) acts)).world.opened
 slice_closed s marker budget reply acts h none = subst NoMarker (sym (slice_opened s marker budget reply acts h)) (no_marker_filter _ s.world.opened none)
 
 -- a call that is no slice opens none
-pub call_closed : (z : Sizes) (s : State) (p : Pass) (a : Act) (acts : List Act) → CallOf s p a acts → LegalFrom z s (by p acts) → NoMarker s.world.opened → NoMarker (run s (by p acts)).world.opened
+pub call_closed : (z : Sizes) (s : State) (p : Pass) (a : Act) (acts : List Act) → EntriesOf a acts → LegalFrom z s (by p acts) → NoMarker s.world.opened → NoMarker (run s (by p acts)).world.opened
 call_closed z s p (act.WriteRef at slot to old) acts call legal none = closed_run z s p acts legal (store_opens_none _ acts refl call) none
 call_closed z s p (act.Root at on old) acts call legal none = closed_run z s p acts legal (store_opens_none _ acts refl call) none
 call_closed z s p (act.SetStrong h to old) acts call legal none = closed_run z s p acts legal (store_opens_none _ acts refl call) none
 call_closed z s p (act.BeginGc begin.Started) acts call legal none =
     closed_run z s p acts legal (subst (λ (xs : List Act). list_any opens_slice xs ≡ false) (sym call.are) (kept_opens_none call.of)) none
+call_closed z s (Lane lane) (act.Slice budget reply) acts call legal none = absurd (subst (LegalFrom z s) (ap (by (Lane lane)) call.are) legal).0.may
+call_closed z s Collector (act.Slice budget reply) acts call legal none = absurd (subst (LegalFrom z s) (ap (by Collector) call.are) legal).0.may
 call_closed z s (Marker marker) (act.Slice budget reply) acts call legal none = slice_closed s marker budget reply acts call none
-call_closed z s p (act.CommitGc reply) acts call legal none = closed_run z s p acts legal (one_opens_none _ acts refl call.are) none
 call_closed z s p (act.PurgeGc budget reply) acts call legal none =
     closed_run z s p acts legal (subst (λ (xs : List Act). list_any opens_slice xs ≡ false) (sym call.are) (parts_open_none call.parts _ refl call.only)) none
-call_closed z s (Lane lane) (act.Dissolve at count) acts call legal none =
-    closed_run z s (Lane lane) acts legal (subst (λ (xs : List Act). list_any opens_slice xs ≡ false) (sym call.are) (loose_open_none call.of _ refl)) none
+call_closed z s p (act.Dissolve at count) acts call legal none =
+    closed_run z s p acts legal (subst (λ (xs : List Act). list_any opens_slice xs ≡ false) (sym call.are) (loose_open_none call.of _ refl)) none
 call_closed z s p (act.Loose of) acts call legal none = absurd call
 call_closed z s p act.SliceOpen acts call legal none = absurd call
 call_closed z s p (act.Kept of) acts call legal none = absurd call
@@ -148,7 +149,7 @@ call_closed z s p a acts call legal none = closed_run z s p acts legal (one_open
 pub slices_closed : (z : Sizes) (old new : List Entry) (p : Pass) (a : Act) → Appends z old new p a → no_slice (after old) ≡ true → no_slice (after new) ≡ true
 slices_closed z old new p a h closed =
     let none : NoMarker (after old).opened = not_true _ closed in
-    let after_call = call_closed z (state_of old) p a h.acts h.call (legal_call z old new p a h) none in
+    let after_call = call_closed z (state_of old) p a h.acts h.call.0 (legal_call z old new p a h) none in
     let now : NoMarker (after new).opened = subst (λ (s : State). NoMarker s.world.opened) (sym (state_after z old new p a h)) after_call in
     rw now refl
   where

@@ -15,7 +15,7 @@ use Rattle.world_model.specs.Reach.{Graph, graph, IsUnit, Refers, IsRootUnit, Wa
 use Rattle.world_model.specs.State.{State, beginning, Holds, IsMarked, is_marked, is_grey, grey_units}
 use Rattle.world_model.specs.Next.{lane_of, given, next}
 use Rattle.world_model.specs.Histories.{May, state_of, after, Legal}
-use Rattle.world_model.specs.Calls.{Appends, Collects}
+use Rattle.world_model.specs.Calls.{Appends, BetweenCalls, Collects}
 use Rattle.world_model.specs.Engines.{act_of_create}
 use Rattle.world_model.specs.Laws.{started, done}
 
@@ -645,6 +645,10 @@ is_refusal _ = false
 -- A refusal leaves the world as it was.
 abbrev pub RefusalsChangeNothing : Type 0
 RefusalsChangeNothing = (z : Sizes) (history : List Entry) (e : Entry) → Legal z (history ++ e ∷ []) → IsTrue (is_refusal e.act) → after (history ++ e ∷ []) ≡ after history
+
+-- A solo call leaves nothing under way: where nothing was before it, nothing is after it.
+abbrev pub CallsEnd : Type 0
+CallsEnd = (z : Sizes) (old new : List Entry) (p : Pass) (a : Act) → Appends z old new p a → BetweenCalls (state_of old) → BetweenCalls (state_of new)
 
 -- What the collector is told when it asks for a start is decided by the world: no two answers can come next.
 abbrev pub BeginIsDecided : Type 0

@@ -17,7 +17,7 @@ ghost use Rattle.world_model.specs.Follows.{MarksChangeNothing, GarbageDecidesNo
 ghost use Rattle.world_model.specs.Follows.{TakenApart, DissolvesUnit, DissolveAnswers, StaysAlone, CollectedSingly};
 ghost use Rattle.world_model.specs.Follows.{OpenKeeps, OwnStays, OwnJoins, FewOpen};
 ghost use Rattle.world_model.specs.Follows.{QuotasHold, CensusAddsUp, NamesOnce, SerialsOnce};
-ghost use Rattle.world_model.specs.Follows.{RefusalsChangeNothing, BeginIsDecided, CommitIsDecided, CreateIsDecided};
+ghost use Rattle.world_model.specs.Follows.{RefusalsChangeNothing, CallsEnd, BeginIsDecided, CommitIsDecided, CreateIsDecided};
 
 /// A collection removes only whole units that no root reaches, each object is begun at most once
 /// and then finished at most once, and a weak pointer gives its own object until its removal or
@@ -342,6 +342,12 @@ pub fn serials_once()
 /// A refusal leaves the world as it was.
 pub fn refusals_change_nothing()
     ensures { RefusalsChangeNothing }
+{}
+
+/// A call that runs alone leaves nothing under way: no store is owed, no unit is half taken apart, no
+/// slice is open, and no step of destruction is left to close.
+pub fn calls_end()
+    ensures { CallsEnd }
 {}
 
 /// What the collector is told when it asks for a start is decided by the world.
