@@ -8,8 +8,6 @@
 mod calls;
 mod chain;
 mod laws;
-#[cfg(test)]
-mod tests;
 mod vector;
 mod words;
 

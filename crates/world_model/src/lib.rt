@@ -22,8 +22,6 @@ mod name;
 mod pass;
 mod reply;
 mod shape;
-#[cfg(test)]
-mod tests;
 
 pub use act::{Act, Entry};
 pub use diary::Diary;

@@ -1,12 +1,11 @@
 //! What no clause says: that calls succeed with ample memory, what is printed, how names sort, and
 //! what hooks in memory keep.
-
-use crate::{
+use std::test::Fail;
+use world_model::{
     Act, Begin, ClassId, Commit, Diary, Entry, HookCall, Hooks, Kind, Kinds, Level, MarkStop,
     Marked, MemHooks, Name, Names, Pass, Phase, Purged, Ready, Sequence, Shape, Small, SweepStop,
     Swept, Weak,
 };
-use std::test::Fail;
 
 fn name(lane: u32, count: u64) -> Name {
     Name { lane, count }

@@ -2,11 +2,10 @@
 ghost use Rattle.std.specs.Prelude.{◌≡◌, slice_get};
 ghost use Rattle.index_chain.specs.Walks.{items, IsChain};
 
-use crate::calls::{append, at, drop_last, push_front, take_front};
-use crate::chain::Chain;
-use crate::laws::{outside_stays, parts_stay};
-use crate::vector::VecLinks;
-use crate::words::Links;
+use index_chain::{
+    Chain, Links, VecLinks, append, at, drop_last, outside_stays, parts_stay, push_front,
+    take_front,
+};
 
 // Whether these are the items of a chain.
 fn has_items(links: &mut VecLinks, chain: Chain, expected: &[u32]) -> bool

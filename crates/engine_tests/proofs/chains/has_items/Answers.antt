@@ -1,6 +1,6 @@
 use Rattle.std.proofs.Common.{sym, ◌∙◌, subst}
 use Rattle.index_chain.specs.Walks.{Words, IsChain}
-use Rattle.index_chain.proofs.tests.has_items.Goals as goal
+use Rattle.engine_tests.proofs.chains.has_items.Goals as goal
 
 pub at-item-requires-clause-chain : goal.at-item-requires-clause-chain
 at-item-requires-clause-chain c = subst (λ (w : Words). IsChain w c.args.chain) (sym c.loop-k.invariant) c.requires
