@@ -1,5 +1,6 @@
 -- What is kept stays true as fields and classes come.
-use Rattle.std.proofs.Common.{◌≡◌, ◌≢◌, ℕ, ◌+◌, ◌-◌, ◌<◌, ◌≤◌, ◌==◌, refl, sym, ap, ◌∙◌, subst, inl, inr, arith, zero-add, Bool, true, false, ◌||◌, if◌then◌else◌, ◌⊎◌, List, [], ◌∷◌, ◌++◌, length, map, set, take, drop, Option, Some, None, option_map, slice_get, IsTrue}
+use Rattle.std.proofs.Common.{◌≡◌, ◌≢◌, ℕ, ◌+◌, ◌-◌, ◌<◌, ◌≤◌, ◌==◌, refl, sym, ap, ◌∙◌, subst, inl, inr, arith, zero-add, Bool, true, false, ◌||◌,
+    if◌then◌else◌, ◌⊎◌, List, [], ◌∷◌, ◌++◌, length, map, set, take, drop, Option, Some, None, option_map, slice_get, IsTrue}
 use Rattle.std.specs.List.{list_any, All, Any}
 use Rattle.std.proofs.lemmas.Bool.{or_left, or_right, eq-eqb, eqb-true, ne_eqb, lt-ltb, ltb-true, false_from_ne_true}
 use Rattle.std.proofs.lemmas.List.{length-map, length-set, length_push, map-append, map_push, append-nil, append_assoc, take_all, drop-append-le, get_or_default}
@@ -31,7 +32,8 @@ or_false false = refl
 -- ---- the fields of a class
 
 -- one more field
-pub layout_push : (slots : ℕ) (before fs : List Declaration) (f : Declaration) → layout slots before (fs ++ f ∷ []) ≡ layout slots before fs ++ record { declared = f; first = first_slot slots (before ++ fs) f.kind } ∷ []
+pub layout_push : (slots : ℕ) (before fs : List Declaration) (f : Declaration)
+    → layout slots before (fs ++ f ∷ []) ≡ layout slots before fs ++ record { declared = f; first = first_slot slots (before ++ fs) f.kind } ∷ []
 layout_push slots before [] f =
     let place : List Declaration → List Placed = λ bs. record { declared = f; first = first_slot slots bs f.kind } ∷ [] in
     ap place (sym (append-nil before))
@@ -51,8 +53,16 @@ module _ (slots : ℕ) (row : ClassRow) (name line : ℕ) (kind : FieldKind) (co
   pub adds_up_push : AddsUp slots row → (row.refs + row.plain) + count ≤ slots → All (λ f. f.name ≢ name) row.fields → AddsUp slots (with_row row slots name line kind count)
   adds_up_push h room fresh =
       record {
-        refs = λ names. (λ t. h.refs names t + sym (zero-add (ref_count (declaration_of names next))) t) ∙ sym (sum_by-append ref_count (map (declaration_of names) row.fields) (declaration_of names next ∷ [])) ∙ ap ref_slots (sym (map-append (declaration_of names) row.fields (next ∷ [])));
-        plain = λ names. (λ t. h.plain names t + sym (zero-add (plain_count (declaration_of names next))) t) ∙ sym (sum_by-append plain_count (map (declaration_of names) row.fields) (declaration_of names next ∷ [])) ∙ ap plain_slots (sym (map-append (declaration_of names) row.fields (next ∷ [])));
+        refs =
+            λ names.
+              (λ t. h.refs names t + sym (zero-add (ref_count (declaration_of names next))) t)
+                ∙ sym (sum_by-append ref_count (map (declaration_of names) row.fields) (declaration_of names next ∷ []))
+                ∙ ap ref_slots (sym (map-append (declaration_of names) row.fields (next ∷ [])));
+        plain =
+            λ names.
+              (λ t. h.plain names t + sym (zero-add (plain_count (declaration_of names next))) t)
+                ∙ sym (sum_by-append plain_count (map (declaration_of names) row.fields) (declaration_of names next ∷ []))
+                ∙ ap plain_slots (sym (map-append (declaration_of names) row.fields (next ∷ [])));
         fits = both_fit (is_ref kind) row.refs row.plain count slots room;
         placed = λ names. ap (layout slots []) (map-append (declaration_of names) row.fields (next ∷ []))
             ∙ layout_push slots [] (map (declaration_of names) row.fields) (declaration_of names next)
@@ -73,7 +83,8 @@ pub record StandsAs (row new : ClassRow) : Type 0 where
   pub inherited : new.inherited ≡ row.inherited
   pub front : take row.inherited new.fields ≡ take row.inherited row.fields
 
-each_wider : (names more classes all : ℕ) → names ≤ more → ((k : FieldKind) → IsTrue (has_target classes k) → IsTrue (has_target all k)) → (fs : List FieldRow) → All (IsFieldRow names classes) fs → All (IsFieldRow more all) fs
+each_wider : (names more classes all : ℕ) → names ≤ more → ((k : FieldKind) → IsTrue (has_target classes k) → IsTrue (has_target all k))
+    → (fs : List FieldRow) → All (IsFieldRow names classes) fs → All (IsFieldRow more all) fs
 each_wider names more classes all le wider fs h = All-weaker (IsFieldRow names classes) (IsFieldRow more all) step fs h
   where
     step : (f : FieldRow) → IsFieldRow names classes f → IsFieldRow more all f
@@ -86,7 +97,8 @@ is_parent rows id row parent at e =
     any_passes_from_place (is_id parent) (row_parents rows) id row.parent here (subst (λ (o : Option ClassId). is_id parent o ≡ true) (sym e) (eq-eqb parent.0 parent.0 refl))
 
 module _ (slots names more : ℕ) (rows : List ClassRow) (i : ℕ) (row new : ClassRow) (at : slice_get rows i ≡ Some row) (le : names ≤ more) (are : AreRows slots names rows)
-    (as' : StandsAs row new) (alone : AddsUp slots new) (each : All (IsFieldRow more (length rows)) new.fields) (kept : has_children (row_parents rows) (id_of i) ≡ true → new.fields ≡ row.fields) where
+    (as' : StandsAs row new) (alone : AddsUp slots new) (each : All (IsFieldRow more (length rows)) new.fields)
+        (kept : has_children (row_parents rows) (id_of i) ≡ true → new.fields ≡ row.fields) where
   pub parents_set : row_parents (set rows i new) ≡ row_parents rows
   parents_set = map_set_same (λ (r : ClassRow). r.parent) rows i row new at as'.parent
 
@@ -138,7 +150,8 @@ module _ (slots names more : ℕ) (rows : List ClassRow) (i : ℕ) (row new : Cl
       by (inl e) = subst (λ (k : ℕ). IsRow slots more (set rows i new) k r) (sym e.0) (subst (λ (x : ClassRow). IsRow slots more (set rows i new) i x) (sym e.1) mine)
       by (inr e) = other id r e.1
 
-pub set_know : (rows : List ClassRow) (i : ℕ) (row new : ClassRow) → slice_get rows i ≡ Some row → new.parent ≡ row.parent → new.has_child ≡ row.has_child → KnowChildren rows → KnowChildren (set rows i new)
+pub set_know : (rows : List ClassRow) (i : ℕ) (row new : ClassRow) → slice_get rows i ≡ Some row → new.parent ≡ row.parent
+    → new.has_child ≡ row.has_child → KnowChildren rows → KnowChildren (set rows i new)
 set_know rows i row new at parent child know id r got = by (set_cases rows i id new r got)
   where
     same : row_parents (set rows i new) ≡ row_parents rows
@@ -172,7 +185,8 @@ target_wider classes all le (kind.Ref class) t = let l = ltb-true class.0 classe
 target_wider classes all le kind.Weak t = t
 target_wider classes all le kind.Int t = t
 
-module _ (slots names : ℕ) (rows : List ClassRow) (are : AreRows slots names rows) (parent : ClassId) (above : ClassRow) (at : slice_get rows parent.0 ≡ Some above) (line : ℕ) (jump : ClassId) (up : IsA (row_parents rows) parent jump) where
+module _ (slots names : ℕ) (rows : List ClassRow) (are : AreRows slots names rows) (parent : ClassId) (above : ClassRow)
+    (at : slice_get rows parent.0 ≡ Some above) (line : ℕ) (jump : ClassId) (up : IsA (row_parents rows) parent jump) where
   abbrev child : ClassRow
   child = child_row above line parent jump
 
@@ -183,13 +197,18 @@ module _ (slots names : ℕ) (rows : List ClassRow) (are : AreRows slots names r
   parents_push = map_push (λ (r : ClassRow). r.parent) rows child
 
   weaker : (fs : List FieldRow) → All (IsFieldRow names (length rows)) fs → All (IsFieldRow names (length all)) fs
-  weaker fs h = let l = length_push rows child in each_wider names names (length rows) (length (rows ++ child ∷ [])) (omega arith) (target_wider (length rows) (length (rows ++ child ∷ [])) (omega arith)) fs h
+  weaker fs h = let l = length_push rows child in
+      each_wider names names (length rows) (length (rows ++ child ∷ [])) (omega arith)
+        (target_wider (length rows) (length (rows ++ child ∷ [])) (omega arith)) fs h
 
   within : parent.0 < length rows
   within = slice_get_within rows parent.0 above at
 
   is_far : (id of : ClassId) → id.0 < length rows → IsA (row_parents rows) id of → IsA (row_parents all) id of
-  is_far id of lt h = subst (λ ps. IsA ps id of) (sym parents_push) (isa_push (row_parents rows) (rows_fall slots names rows are) (Some parent) id of (let l = length-map rows (λ (r : ClassRow). r.parent) in omega arith) h)
+  is_far id of lt h =
+      subst (λ ps. IsA ps id of) (sym parents_push)
+        (isa_push (row_parents rows) (rows_fall slots names rows are) (Some parent) id of
+          (let l = length-map rows (λ (r : ClassRow). r.parent) in omega arith) h)
 
   last : slice_get all (length rows) ≡ Some child
   last = at_push rows child
@@ -287,7 +306,9 @@ abbrev uses : ℕ → ClassRow → Bool
 uses n row = list_any (λ (f : FieldRow). f.name == n) (drop row.inherited row.fields)
 
 -- a name that a class uses is used after a write that keeps it
-pub used_set : (rows : List ClassRow) (i : ℕ) (row new : ClassRow) → slice_get rows i ≡ Some row → new.inherited ≡ row.inherited → row.inherited ≤ length row.fields → (fs : List FieldRow) → new.fields ≡ row.fields ++ fs → (n : ℕ) → is_used rows n ≡ true → is_used (set rows i new) n ≡ true
+pub used_set : (rows : List ClassRow) (i : ℕ) (row new : ClassRow) → slice_get rows i ≡ Some row → new.inherited ≡ row.inherited
+    → row.inherited ≤ length row.fields → (fs : List FieldRow) → new.fields ≡ row.fields ++ fs → (n : ℕ) → is_used rows n ≡ true
+    → is_used (set rows i new) n ≡ true
 used_set rows i row new at inherited le fs e n used = any_set (uses n) rows i row new at more used
   where
     more : uses n row ≡ true → uses n new ≡ true
@@ -298,7 +319,8 @@ used_set rows i row new at inherited le fs e n used = any_set (uses n) rows i ro
         ∙ or_left _ (list_any (λ (f : FieldRow). f.name == n) fs) h
 
 -- and so is the name of a field that comes
-pub used_here : (rows : List ClassRow) (i : ℕ) (row new : ClassRow) → slice_get rows i ≡ Some row → new.inherited ≡ row.inherited → row.inherited ≤ length row.fields → (f : FieldRow) → new.fields ≡ row.fields ++ f ∷ [] → is_used (set rows i new) f.name ≡ true
+pub used_here : (rows : List ClassRow) (i : ℕ) (row new : ClassRow) → slice_get rows i ≡ Some row → new.inherited ≡ row.inherited
+    → row.inherited ≤ length row.fields → (f : FieldRow) → new.fields ≡ row.fields ++ f ∷ [] → is_used (set rows i new) f.name ≡ true
 used_here rows i row new at inherited le f e =
     any_passes_from_place (λ (r : ClassRow). list_any (λ (g : FieldRow). g.name == f.name) (drop r.inherited r.fields)) (set rows i new) i new (at_set rows i new (slice_get_within rows i row at))
     ((λ t. list_any (λ (g : FieldRow). g.name == f.name) (drop (inherited t) (e t)))

@@ -62,7 +62,8 @@ module _ (ps : List (Option ClassId)) where
     isa_jump zero class at of e up h = subst (λ (c : ClassId). IsA ps c of) (same_Some class at e) h
     isa_jump (suc n) class at of e up h = go (λ parent f. isa_jump n parent at of f up) (isa_down class of h)
       where
-        go : ((parent : ClassId) → ancestor ps n (Some parent) ≡ Some at → IsA ps parent of → IsA ps at of) → (class ≡ of) ⊎ ((parent : ClassId) × (parent_of ps (Some class) ≡ Some parent) × IsA ps parent of) → IsA ps at of
+        go : ((parent : ClassId) → ancestor ps n (Some parent) ≡ Some at → IsA ps parent of → IsA ps at of)
+            → (class ≡ of) ⊎ ((parent : ClassId) × (parent_of ps (Some class) ≡ Some parent) × IsA ps parent of) → IsA ps at of
         go rest (inl same) =
             let l = low (suc n) class at e in
             let s : class.0 ≡ of.0 = ap (λ (c : ClassId). c.0) same in
@@ -77,7 +78,8 @@ module _ (ps : List (Option ClassId)) where
         same : parent_of (ps ++ x ∷ []) (Some class) ≡ parent_of ps (Some class)
         same = get_or_append_left ps (x ∷ []) None class.0 lt
 
-        go : ((parent : ClassId) → parent.0 < length ps → ancestor ps n (Some parent) ≡ Some of → ancestor (ps ++ x ∷ []) n (Some parent) ≡ Some of) → (o : Option ClassId) → parent_of ps (Some class) ≡ o → ancestor (ps ++ x ∷ []) (suc n) (Some class) ≡ Some of
+        go : ((parent : ClassId) → parent.0 < length ps → ancestor ps n (Some parent) ≡ Some of → ancestor (ps ++ x ∷ []) n (Some parent) ≡ Some of)
+            → (o : Option ClassId) → parent_of ps (Some class) ≡ o → ancestor (ps ++ x ∷ []) (suc n) (Some class) ≡ Some of
         go rest None h = absurd (let f : None ≡ Some of = sym (above_none n) ∙ ap (ancestor ps n) (sym h) ∙ e in cc)
         go rest (Some parent) h =
             let less = fall.falls class parent h in
@@ -99,7 +101,8 @@ module _ (ps : List (Option ClassId)) where
   within_is zero o of h = absurd cc
   within_is (suc n) o of h = go (within_is n (parent_of ps o) of) (or_cases (is_id of o) _ h)
     where
-      go : (is_within ps n (parent_of ps o) of ≡ true → (k : ℕ) × (ancestor ps k (parent_of ps o) ≡ Some of)) → (is_id of o ≡ true) ⊎ (is_within ps n (parent_of ps o) of ≡ true) → (k : ℕ) × (ancestor ps k o ≡ Some of)
+      go : (is_within ps n (parent_of ps o) of ≡ true → (k : ℕ) × (ancestor ps k (parent_of ps o) ≡ Some of))
+          → (is_id of o ≡ true) ⊎ (is_within ps n (parent_of ps o) of ≡ true) → (k : ℕ) × (ancestor ps k o ≡ Some of)
       go rest (inl e) = (zero, id_true of o e)
       go rest (inr e) = let r = rest e in (suc r.0, r.1)
 

@@ -22,7 +22,9 @@ found_first p slots head (f ∷ fs) more q e = go (p here) e (found_first p slot
     here : Placed
     here = record { declared = f; first = first_slot slots head f.kind }
 
-    go : (b : Bool) → cond b (Some here) (find p (layout slots (head ++ f ∷ []) fs)) ≡ Some q → (find p (layout slots (head ++ f ∷ []) fs) ≡ Some q → find p (layout slots (head ++ f ∷ []) (fs ++ more)) ≡ Some q) → cond b (Some here) (find p (layout slots (head ++ f ∷ []) (fs ++ more))) ≡ Some q
+    go : (b : Bool) → cond b (Some here) (find p (layout slots (head ++ f ∷ []) fs)) ≡ Some q
+        → (find p (layout slots (head ++ f ∷ []) fs) ≡ Some q → find p (layout slots (head ++ f ∷ []) (fs ++ more)) ≡ Some q)
+        → cond b (Some here) (find p (layout slots (head ++ f ∷ []) (fs ++ more))) ≡ Some q
     go true e rest = e
     go false e rest = rest e
 
@@ -37,15 +39,23 @@ module _ (t : Schema) (lawful : IsSchema t) where
 
       by : (class parent : ClassId) → parent_of (parents t.classes) (Some class) ≡ Some parent → (class.0 < length t.classes) ⊎ (length t.classes ≤ class.0) → parent.0 < class.0
       by class parent e (inl lt) = from class parent (class_at t.classes class).parent (lawful.each class lt).older (sym (get_or-map (λ (c : Class). c.parent) t.classes class.0 object None lt) ∙ e)
-      by class parent e (inr past) = absurd (let l = length-map t.classes (λ (c : Class). c.parent) in let n : None ≡ Some parent = sym (get_or_past (parents t.classes) class.0 None (omega arith)) ∙ e in cc)
+      by class parent e (inr past) =
+          absurd
+            (let l = length-map t.classes (λ (c : Class). c.parent) in
+              let n : None ≡ Some parent = sym (get_or_past (parents t.classes) class.0 None (omega arith)) ∙ e in
+              cc)
 
   -- more generations than an id says add nothing
   enough : (n m : ℕ) (class : ClassId) → class.0 < n → class.0 < m → fields_within t.classes n (Some class) ≡ fields_within t.classes m (Some class)
   enough zero m class a b = absurd (omega arith)
   enough (suc n) zero class a b = absurd (omega arith)
-  enough (suc n) (suc m) class a b = ap (λ up. up ++ (class_at t.classes class).own) (go (parent_of (parents t.classes) (Some class)) (λ parent e. schema_falls.falls class parent e) (λ parent. enough n m parent))
+  enough (suc n) (suc m) class a b =
+      ap (λ up. up ++ (class_at t.classes class).own)
+        (go (parent_of (parents t.classes) (Some class)) (λ parent e. schema_falls.falls class parent e) (λ parent. enough n m parent))
     where
-      go : (o : Option ClassId) → ((parent : ClassId) → o ≡ Some parent → parent.0 < class.0) → ((parent : ClassId) → parent.0 < n → parent.0 < m → fields_within t.classes n (Some parent) ≡ fields_within t.classes m (Some parent)) → fields_within t.classes n o ≡ fields_within t.classes m o
+      go : (o : Option ClassId) → ((parent : ClassId) → o ≡ Some parent → parent.0 < class.0)
+          → ((parent : ClassId) → parent.0 < n → parent.0 < m → fields_within t.classes n (Some parent) ≡ fields_within t.classes m (Some parent))
+          → fields_within t.classes n o ≡ fields_within t.classes m o
       go None low rest = none_within t.classes n ∙ sym (none_within t.classes m)
       go (Some parent) low rest = let less = low parent refl in rest parent (omega arith) (omega arith)
 
@@ -62,7 +72,9 @@ module _ (t : Schema) (lawful : IsSchema t) where
   first_fields (suc n) class of e = go (parent_of (parents t.classes) (Some class)) refl (inherited class (parent_of (parents t.classes) (Some class)) refl) (λ parent. first_fields n parent of)
     where
       go : (o : Option ClassId) → parent_of (parents t.classes) (Some class) ≡ o → HasFieldsOf t.classes (class_at t.classes class) (fields t.classes class) o
-          → ((parent : ClassId) → ancestor (parents t.classes) n (Some parent) ≡ Some of → (more : List Declaration) × (fields t.classes parent ≡ fields t.classes of ++ more)) → (more : List Declaration) × (fields t.classes class ≡ fields t.classes of ++ more)
+          → ((parent : ClassId) → ancestor (parents t.classes) n (Some parent) ≡ Some of
+                → (more : List Declaration) × (fields t.classes parent ≡ fields t.classes of ++ more))
+              → (more : List Declaration) × (fields t.classes class ≡ fields t.classes of ++ more)
       go None is has rest = absurd (let f : None ≡ Some of = sym (above_none (parents t.classes) n) ∙ ap (ancestor (parents t.classes) n) (sym is) ∙ e in cc)
       go (Some parent) is has rest =
           let r = rest parent (ap (ancestor (parents t.classes) n) (sym is) ∙ e) in
@@ -72,9 +84,12 @@ module _ (t : Schema) (lawful : IsSchema t) where
   unfolding find_field
   slots_kept class of h name field e =
       let r = first_fields h.0 class of h.1 in
-      ap (λ fs. option_map as_field (find (λ (p : Placed). is_called name p.declared) (layout t.slots [] fs))) r.1 ∙ go r.0 (find (λ (p : Placed). is_called name p.declared) (layout t.slots [] (fields t.classes of))) refl e
+      ap (λ fs. option_map as_field (find (λ (p : Placed). is_called name p.declared) (layout t.slots [] fs))) r.1
+          ∙ go r.0 (find (λ (p : Placed). is_called name p.declared) (layout t.slots [] (fields t.classes of))) refl e
     where
-      go : (more : List Declaration) (o : Option Placed) → find (λ (p : Placed). is_called name p.declared) (layout t.slots [] (fields t.classes of)) ≡ o → option_map as_field o ≡ Some field → option_map as_field (find (λ (p : Placed). is_called name p.declared) (layout t.slots [] (fields t.classes of ++ more))) ≡ Some field
+      go : (more : List Declaration) (o : Option Placed)
+          → find (λ (p : Placed). is_called name p.declared) (layout t.slots [] (fields t.classes of)) ≡ o → option_map as_field o ≡ Some field
+          → option_map as_field (find (λ (p : Placed). is_called name p.declared) (layout t.slots [] (fields t.classes of ++ more))) ≡ Some field
       go more None is s = absurd cc
       go more (Some p) is s = ap (option_map as_field) (found_first (λ (q : Placed). is_called name q.declared) t.slots [] (fields t.classes of) more p is) ∙ s
 

@@ -1,5 +1,6 @@
 -- Each call keeps what is kept, and makes of the classes what it says.
-use Rattle.std.proofs.Common.{◌≡◌, ◌≢◌, ℕ, zero, suc, ◌+◌, ◌<◌, ◌≤◌, refl, sym, ap, ◌∙◌, subst, inl, inr, arith, Bool, true, false, ◌⊎◌, List, [], ◌∷◌, ◌++◌, length, map, set, drop, Some, None, option_map, slice_get, slice_index_or, String, string_bytes, IsTrue}
+use Rattle.std.proofs.Common.{◌≡◌, ◌≢◌, ℕ, zero, suc, ◌+◌, ◌<◌, ◌≤◌, refl, sym, ap, ◌∙◌, subst, inl, inr, arith, Bool, true, false, ◌⊎◌, List, [],
+    ◌∷◌, ◌++◌, length, map, set, drop, Some, None, option_map, slice_get, slice_index_or, String, string_bytes, IsTrue}
 use Rattle.std.specs.Prelude.{Result, Ok, if◌then◌else◌}
 use Rattle.std.specs.List.{All, IsDistinct}
 use Rattle.std.specs.String.{string_eq}
@@ -37,7 +38,9 @@ starts_push (q ∷ es) p h = h
 
 -- ---- a readiness
 
-pub keeps_ready : (slots : ℕ) (keys : List (String Global)) (es : Entries) (i : ℕ) (row : ClassRow) (ready : Ready) → slice_get (rows_of es) i ≡ Some row → IsTrue (is_readiness ready) → Keeps slots keys es → Keeps slots keys (set_value_at es i (record row { ready = ready }))
+pub keeps_ready : (slots : ℕ) (keys : List (String Global)) (es : Entries) (i : ℕ) (row : ClassRow) (ready : Ready)
+    → slice_get (rows_of es) i ≡ Some row → IsTrue (is_readiness ready) → Keeps slots keys es
+    → Keeps slots keys (set_value_at es i (record row { ready = ready }))
 keeps_ready slots keys es i row ready at is_ready k =
     let new : ClassRow = record row { ready = ready } in
     let here = k.rows i row at in
@@ -70,8 +73,10 @@ sees_ready names es id row ready at =
     let put : Class → List Class = λ c. set (classes_of names es) id.0 (record c { ready = ready }) in
     map_entry_set (class_of names) es id.0 e.0 row (record row { ready = ready }) e.1 ∙ ap put (sym e.2)
 
-pub ready_done : (slots : ℕ) (keys : List (String Global)) (es : Entries) (id : ClassId) (row : ClassRow) (ready : Ready) → slice_get (rows_of es) id.0 ≡ Some row → has_children (parents (classes_of (texts keys) es)) id ≡ false
-    → ready_set (record { slots = slots; classes = classes_of (texts keys) es }) id ready ≡ Ok (record { slots = slots; classes = classes_of (texts keys) (set_value_at es id.0 (record row { ready = ready })) })
+pub ready_done : (slots : ℕ) (keys : List (String Global)) (es : Entries) (id : ClassId) (row : ClassRow) (ready : Ready)
+    → slice_get (rows_of es) id.0 ≡ Some row → has_children (parents (classes_of (texts keys) es)) id ≡ false
+    → ready_set (record { slots = slots; classes = classes_of (texts keys) es }) id ready
+        ≡ Ok (record { slots = slots; classes = classes_of (texts keys) (set_value_at es id.0 (record row { ready = ready })) })
 ready_done slots keys es id row ready at none =
     let old : Schema = record { slots = slots; classes = classes_of (texts keys) es } in
     let table : List Class → Result Schema SchemaErr = λ cs. Ok (record { slots = slots; classes = cs }) in
@@ -80,14 +85,16 @@ ready_done slots keys es id row ready at none =
 
 -- ---- a field
 
-module _ (slots : ℕ) (keys more : List (String Global)) (es : Entries) (id : ClassId) (row : ClassRow) (at : slice_get (rows_of es) id.0 ≡ Some row) (name line : ℕ) (kind : FieldKind) (count : ℕ) (k : Keeps slots keys es) where
+module _ (slots : ℕ) (keys more : List (String Global)) (es : Entries) (id : ClassId) (row : ClassRow) (at : slice_get (rows_of es) id.0 ≡ Some row)
+    (name line : ℕ) (kind : FieldKind) (count : ℕ) (k : Keeps slots keys es) where
   abbrev new : ClassRow
   new = with_row row slots name line kind count
 
   abbrev field : FieldRow
   field = next_row row slots name line kind count
 
-  module _ (le : length keys ≤ length more) (named : name < length more) (some : 1 ≤ count) (few : count ≤ 64) (target : IsTrue (has_target (length es) kind)) (room : (row.refs + row.plain) + count ≤ slots)
+  module _ (le : length keys ≤ length more) (named : name < length more) (some : 1 ≤ count) (few : count ≤ 64)
+      (target : IsTrue (has_target (length es) kind)) (room : (row.refs + row.plain) + count ≤ slots)
       (fresh : All (λ f. f.name ≢ name) row.fields) (childless : has_children (row_parents (rows_of es)) id ≡ false) (unique : IsDistinct string_eq more)
       (used : (n : ℕ) → n < length more → (n < length keys) ⊎ (n ≡ name)) where
     pub keeps_field : Keeps slots more (set_value_at es id.0 new)
@@ -98,7 +105,8 @@ module _ (slots : ℕ) (keys more : List (String Global)) (es : Entries) (id : C
         let any = k.some in
         let most = k.few in
         let rows = values_set es id.0 new in
-        let wide : All (IsFieldRow (length more) (length (rows_of es))) row.fields = All-weaker (IsFieldRow (length keys) (length (rows_of es))) (IsFieldRow (length more) (length (rows_of es))) wider row.fields here.each in
+        let wide : All (IsFieldRow (length more) (length (rows_of es))) row.fields =
+            All-weaker (IsFieldRow (length keys) (length (rows_of es))) (IsFieldRow (length more) (length (rows_of es))) wider row.fields here.each in
         record {
           some_slots = k.some_slots;
           few_slots = k.few_slots;
@@ -111,7 +119,9 @@ module _ (slots : ℕ) (keys more : List (String Global)) (es : Entries) (id : C
               (set_are slots (length keys) (length more) (rows_of es) id.0 row new at le k.rows
               (record { parent = refl; jump = refl; depth = refl; inherited = refl; front = take-append-le row.inherited row.fields (field ∷ []) a.inherited })
               (adds_up_push slots row name line kind count a room fresh)
-              (All-push (IsFieldRow (length more) (length (rows_of es))) row.fields field wide (record { named = named; some = some; few = few; target = subst (λ (n : ℕ). IsTrue (has_target n kind)) (sym (length_rows es)) target }))
+              (All-push (IsFieldRow (length more) (length (rows_of es))) row.fields field wide
+                  (record
+                    { named = named; some = some; few = few; target = subst (λ (n : ℕ). IsTrue (has_target n kind)) (sym (length_rows es)) target }))
               (λ h. absurd (let c = childless in cc)));
           children = subst KnowChildren (sym rows) (set_know (rows_of es) id.0 row new at refl refl k.children);
           used = λ n lt. subst (λ rs. is_used rs n ≡ true) (sym rows) (uses n (used n lt));
@@ -132,23 +142,34 @@ module _ (slots : ℕ) (keys more : List (String Global)) (es : Entries) (id : C
         let name_of : List ℕ → Declaration = λ n. record { name = n; line = f.line; kind = f.field.kind; count = f.field.count } in
         λ t. name_of (agree f.name (All-head (λ g. g.name < length keys) f fs h) t) ∷ same_declarations fs (All-tail (λ g. g.name < length keys) f fs h) t
 
-    same_classes : (es : Entries) → ((j : ℕ) (e : String Global × ClassRow) → slice_get es j ≡ Some e → All (λ f. f.name < length keys) e.1.fields) → classes_of (texts more) es ≡ classes_of (texts keys) es
+    same_classes : (es : Entries) → ((j : ℕ) (e : String Global × ClassRow) → slice_get es j ≡ Some e → All (λ f. f.name < length keys) e.1.fields)
+        → classes_of (texts more) es ≡ classes_of (texts keys) es
     same_classes [] h = refl
     same_classes (e ∷ es) h =
         let own_of : List Declaration → Class = λ fs. record { name = string_bytes e.0; line = e.1.line; parent = e.1.parent; own = fs; ready = e.1.ready } in
         λ t. own_of (same_declarations (drop e.1.inherited e.1.fields) (All-drop (λ f. f.name < length keys) e.1.inherited e.1.fields (h zero e refl)) t) ∷ same_classes es (λ j. h (suc j)) t
 
     named : (j : ℕ) (e : String Global × ClassRow) → slice_get es j ≡ Some e → All (λ f. f.name < length keys) e.1.fields
-    named j e got = All-weaker (IsFieldRow (length keys) (length (rows_of es))) (λ f. f.name < length keys) (λ f i. i.named) e.1.fields (k.rows j e.1 (slice_get-map (λ (p : String Global × ClassRow). p.1) es j ∙ ap (option_map (λ (p : String Global × ClassRow). p.1)) got)).each
+    named j e got =
+        All-weaker (IsFieldRow (length keys) (length (rows_of es))) (λ f. f.name < length keys) (λ f i. i.named) e.1.fields
+          (k.rows j e.1
+            (slice_get-map (λ (p : String Global × ClassRow). p.1) es j ∙ ap (option_map (λ (p : String Global × ClassRow). p.1)) got)).each
 
-    pub sees_field : classes_of (texts more) (set_value_at es id.0 new) ≡ set (classes_of (texts keys) es) id.0 (with_own (class_at (classes_of (texts keys) es) id) (record { name = text; line = line; kind = kind; count = count }))
+    pub sees_field : classes_of (texts more) (set_value_at es id.0 new)
+        ≡ set (classes_of (texts keys) es) id.0
+          (with_own (class_at (classes_of (texts keys) es) id) (record { name = text; line = line; kind = kind; count = count }))
     sees_field =
         let e = class_seen (texts keys) es id row at in
         let a = (k.rows id.0 row at).adds_up in
-        let own : map (declaration_of (texts more)) (drop row.inherited (row.fields ++ field ∷ [])) ≡ map (declaration_of (texts keys)) (drop row.inherited row.fields) ++ record { name = text; line = line; kind = kind; count = count } ∷ []
+        let own : map (declaration_of (texts more)) (drop row.inherited (row.fields ++ field ∷ []))
+            ≡ map (declaration_of (texts keys)) (drop row.inherited row.fields) ++ record { name = text; line = line; kind = kind; count = count }
+              ∷ []
         = ap (map (declaration_of (texts more))) (drop-append-le row.inherited row.fields (field ∷ []) a.inherited)
         ∙ map-append (declaration_of (texts more)) (drop row.inherited row.fields) (field ∷ [])
-        ∙ (λ t. same_declarations (drop row.inherited row.fields) (All-drop (λ f. f.name < length keys) row.inherited row.fields (named id.0 (e.0, row) e.1)) t ++ record { name = here t; line = line; kind = kind; count = count } ∷ []) in
+        ∙ (λ t.
+            same_declarations (drop row.inherited row.fields)
+                (All-drop (λ f. f.name < length keys) row.inherited row.fields (named id.0 (e.0, row) e.1)) t
+              ++ record { name = here t; line = line; kind = kind; count = count } ∷ []) in
         let own_of : List Declaration → Class = λ fs. record { name = string_bytes e.0; line = row.line; parent = row.parent; own = fs; ready = row.ready } in
         map_entry_set (class_of (texts more)) es id.0 e.0 row new e.1
         ∙ (λ t. set (same_classes es named t) id.0 (own_of (own t)))
@@ -156,7 +177,8 @@ module _ (slots : ℕ) (keys more : List (String Global)) (es : Entries) (id : C
 
 -- ---- a class
 
-module _ (slots : ℕ) (keys : List (String Global)) (es : Entries) (parent : ClassId) (above : ClassRow) (at : slice_get (rows_of es) parent.0 ≡ Some above) (key : String Global) (line : ℕ) (jump : ClassId) where
+module _ (slots : ℕ) (keys : List (String Global)) (es : Entries) (parent : ClassId) (above : ClassRow)
+    (at : slice_get (rows_of es) parent.0 ≡ Some above) (key : String Global) (line : ℕ) (jump : ClassId) where
   abbrev born : ClassRow
   born = child_row above line parent jump
 
@@ -193,10 +215,15 @@ module _ (slots : ℕ) (keys : List (String Global)) (es : Entries) (parent : Cl
             (record { refs = a.refs; plain = a.plain; fits = a.fits; placed = a.placed; different = a.different; inherited = a.inherited; ready = a.ready })
             (pushed parent.0 above there).each (λ _. refl));
         children = subst KnowChildren (sym rows) (push_know slots (length keys) (rows_of es) k.rows parent above at line jump up k.children);
-        used = λ n lt. subst (λ rs. is_used rs n ≡ true) (sym rows) (used_set (rows_of es ++ born ∷ []) parent.0 above marked there refl a.inherited [] (sym (append-nil above.fields)) n (used_push (rows_of es) born n (k.used n lt)));
+        used =
+            λ n lt.
+              subst (λ rs. is_used rs n ≡ true) (sym rows)
+                (used_set (rows_of es ++ born ∷ []) parent.0 above marked there refl a.inherited [] (sym (append-nil above.fields)) n
+                  (used_push (rows_of es) born n (k.used n lt)));
       }
 
-  pub sees_class : (names : List (List ℕ)) (name : List ℕ) → string_bytes key ≡ name → classes_of names (set_value_at all parent.0 marked) ≡ classes_of names es ++ child (classes_of names es) line name parent ∷ []
+  pub sees_class : (names : List (List ℕ)) (name : List ℕ) → string_bytes key ≡ name
+      → classes_of names (set_value_at all parent.0 marked) ≡ classes_of names es ++ child (classes_of names es) line name parent ∷ []
   sees_class names name is_name =
       let e = class_seen names es parent above at in
       let born_as : List ℕ → List Declaration → Ready → List Class = λ n fs r. classes_of names es ++ record { name = n; line = line; parent = Some parent; own = fs; ready = r } ∷ [] in

@@ -1,5 +1,6 @@
 -- The names of fields, by number.
-use Rattle.std.proofs.Common.{◌≡◌, ◌≢◌, ℕ, ◌<◌, ◌==◌, refl, sym, ap, ◌∙◌, subst, inl, inr, arith, Bool, true, false, ◌||◌, cond, ◌⊎◌, List, [], ◌∷◌, length, map, drop, Option, Some, None, option_map, slice_get, slice_index_or, String, string_bytes}
+use Rattle.std.proofs.Common.{◌≡◌, ◌≢◌, ℕ, ◌<◌, ◌==◌, refl, sym, ap, ◌∙◌, subst, inl, inr, arith, Bool, true, false, ◌||◌, cond, ◌⊎◌, List, [], ◌∷◌,
+    length, map, drop, Option, Some, None, option_map, slice_get, slice_index_or, String, string_bytes}
 use Rattle.std.specs.Prelude.{nat_lt, position}
 use Rattle.std.specs.List.{list_any, find, All, Any, IsDistinct, position_or_len}
 use Rattle.std.specs.Str.{bytes_eq}
@@ -59,7 +60,8 @@ nothing_found p (x ∷ xs) e = go (p x) refl e (nothing_found p xs)
 -- ---- a name and its number
 
 -- two keys have two texts
-pub keys_differ : (keys : List (String Global)) → IsDistinct string_eq keys → (i n : ℕ) (a b : String Global) → i < n → slice_get keys i ≡ Some a → slice_get keys n ≡ Some b → string_bytes a ≡ string_bytes b → ⊥
+pub keys_differ : (keys : List (String Global)) → IsDistinct string_eq keys → (i n : ℕ) (a b : String Global) → i < n → slice_get keys i ≡ Some a
+    → slice_get keys n ≡ Some b → string_bytes a ≡ string_bytes b → ⊥
 keys_differ keys unique i n a b less ai bn same =
     let within = slice_get_within keys n b bn in
     let t : string_eq a b ≡ true = bytes_same (string_bytes a) (string_bytes b) same in
@@ -152,26 +154,35 @@ module _ (keys : List (String Global)) (name : List ℕ) where
     abbrev by_number : ℕ → FieldRow → Bool
     by_number k f = f.name == k
 
-    pub line_found : IsDistinct string_eq keys → (k : ℕ) → position is_text keys ≡ Some k → option_map (λ (f : Declaration). f.line) (find (is_called name) (map (declaration_of (texts keys)) fs)) ≡ option_map (λ (f : FieldRow). f.line) (find (λ f. f.name == k) fs)
+    pub line_found : IsDistinct string_eq keys → (k : ℕ) → position is_text keys ≡ Some k
+        → option_map (λ (f : Declaration). f.line) (find (is_called name) (map (declaration_of (texts keys)) fs))
+          ≡ option_map (λ (f : FieldRow). f.line) (find (λ f. f.name == k) fs)
     line_found unique k e =
         ap (option_map (λ (f : Declaration). f.line)) (find_map (declaration_of (texts keys)) (is_called name) (by_number k) fs (tests unique k e))
         ∙ option_map_map (λ (f : Declaration). f.line) (declaration_of (texts keys)) (find (by_number k) fs)
 
-    pub field_found : IsDistinct string_eq keys → (k : ℕ) → position is_text keys ≡ Some k → option_map as_field (find (λ p. is_called name p.declared) (map (placed_of (texts keys)) fs)) ≡ option_map (λ (f : FieldRow). f.field) (find (λ f. f.name == k) fs)
+    pub field_found : IsDistinct string_eq keys → (k : ℕ) → position is_text keys ≡ Some k
+        → option_map as_field (find (λ p. is_called name p.declared) (map (placed_of (texts keys)) fs))
+          ≡ option_map (λ (f : FieldRow). f.field) (find (λ f. f.name == k) fs)
     field_found unique k e =
         ap (option_map as_field) (find_map (placed_of (texts keys)) (λ (p : Placed). is_called name p.declared) (by_number k) fs (tests unique k e))
         ∙ option_map_map as_field (placed_of (texts keys)) (find (by_number k) fs)
 
     pub line_missing : position is_text keys ≡ None → option_map (λ (f : Declaration). f.line) (find (is_called name) (map (declaration_of (texts keys)) fs)) ≡ None
     line_missing e =
-        ap (option_map (λ (f : Declaration). f.line)) (find_map (declaration_of (texts keys)) (is_called name) (λ f. false) fs (fails e) ∙ ap (option_map (declaration_of (texts keys))) (find_nothing (λ f. false) fs (λ k d lt. refl)))
+        ap (option_map (λ (f : Declaration). f.line))
+            (find_map (declaration_of (texts keys)) (is_called name) (λ f. false) fs (fails e)
+              ∙ ap (option_map (declaration_of (texts keys))) (find_nothing (λ f. false) fs (λ k d lt. refl)))
 
     pub field_missing : position is_text keys ≡ None → option_map as_field (find (λ p. is_called name p.declared) (map (placed_of (texts keys)) fs)) ≡ None
     field_missing e =
-        ap (option_map as_field) (find_map (placed_of (texts keys)) (λ (p : Placed). is_called name p.declared) (λ f. false) fs (fails e) ∙ ap (option_map (placed_of (texts keys))) (find_nothing (λ f. false) fs (λ k d lt. refl)))
+        ap (option_map as_field)
+            (find_map (placed_of (texts keys)) (λ (p : Placed). is_called name p.declared) (λ f. false) fs (fails e)
+              ∙ ap (option_map (placed_of (texts keys))) (find_nothing (λ f. false) fs (λ k d lt. refl)))
 
     -- no field of a class has the number of a name that none of them has
-    pub fresh_number : IsDistinct string_eq keys → (k : ℕ) → position is_text keys ≡ Some k → option_map (λ (f : Declaration). f.line) (find (is_called name) (map (declaration_of (texts keys)) fs)) ≡ None → All (λ f. f.name ≢ k) fs
+    pub fresh_number : IsDistinct string_eq keys → (k : ℕ) → position is_text keys ≡ Some k
+        → option_map (λ (f : Declaration). f.line) (find (is_called name) (map (declaration_of (texts keys)) fs)) ≡ None → All (λ f. f.name ≢ k) fs
     fresh_number unique k e none =
         All-weaker (λ f. (f.name == k) ≡ false) (λ f. f.name ≢ k) (λ f t. eqb-false f.name k t) fs (nothing_found (by_number k) fs (unmap (find (by_number k) fs) (sym (line_found unique k e) ∙ none)))
       where
@@ -200,7 +211,11 @@ module _ (keys : List (String Global)) (name : List ℕ) where
     there h = go (Any-from_list_any (is_text keys name) keys h)
       where
         go : Any (λ key. is_text keys name key ≡ true) keys → list_any adds (rows_of es) ≡ true
-        go (k, key, lt, e, t) = any_weaker (λ row. list_any (λ f. f.name == k) (drop row.inherited row.fields)) adds (λ row any. any_weaker (λ f. f.name == k) (λ f. bytes_eq name (slice_index_or (texts keys) f.name [])) named (drop row.inherited row.fields) any) (rows_of es) (used k lt)
+        go (k, key, lt, e, t) =
+            any_weaker (λ row. list_any (λ f. f.name == k) (drop row.inherited row.fields)) adds
+              (λ row any.
+                any_weaker (λ f. f.name == k) (λ f. bytes_eq name (slice_index_or (texts keys) f.name [])) named (drop row.inherited row.fields) any)
+              (rows_of es) (used k lt)
           where
             named : (f : FieldRow) → (f.name == k) ≡ true → bytes_eq name (slice_index_or (texts keys) f.name []) ≡ true
             named f s = ap (λ n. bytes_eq name (slice_index_or (texts keys) n [])) (eqb-true f.name k s) ∙ test_at keys name k key lt ∙ ap (is_text keys name) e ∙ t

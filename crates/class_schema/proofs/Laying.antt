@@ -1,5 +1,6 @@
 -- The law of layout.
-use Rattle.std.proofs.Common.{◌≡◌, ℕ, zero, suc, ◌+◌, ◌-◌, ◌<◌, ◌≤◌, refl, sym, ap, ◌∙◌, subst, inl, inr, arith, Bool, true, false, cond, ◌⊎◌, List, [], ◌∷◌, ◌++◌, length, take, Option, Some, None, option_map, IfSome, slice_get}
+use Rattle.std.proofs.Common.{◌≡◌, ℕ, zero, suc, ◌+◌, ◌-◌, ◌<◌, ◌≤◌, refl, sym, ap, ◌∙◌, subst, inl, inr, arith, Bool, true, false, cond, ◌⊎◌, List,
+    [], ◌∷◌, ◌++◌, length, take, Option, Some, None, option_map, IfSome, slice_get}
 use Rattle.std.specs.List.{sum_by, find, position_or_len}
 use Rattle.std.proofs.lemmas.Bool.{cases_lt, cases_order, cases_Bool}
 use Rattle.std.proofs.lemmas.List.{append-nil, append_assoc}
@@ -41,7 +42,8 @@ module _ (g : Declaration → ℕ) where
       omega arith
 
   -- each number is of one element
-  pub one_element : (fs : List Declaration) (k l i j : ℕ) (f h : Declaration) → slice_get fs k ≡ Some f → slice_get fs l ≡ Some h → i < g f → j < g h → sum_by g (take k fs) + i ≡ sum_by g (take l fs) + j → (k ≡ l) × (i ≡ j)
+  pub one_element : (fs : List Declaration) (k l i j : ℕ) (f h : Declaration) → slice_get fs k ≡ Some f → slice_get fs l ≡ Some h → i < g f → j < g h
+      → sum_by g (take k fs) + i ≡ sum_by g (take l fs) + j → (k ≡ l) × (i ≡ j)
   one_element fs k l i j f h at bt li lj same = go (cases_order k l)
     where
       go : (k ≡ l) ⊎ ((k < l) ⊎ (l < k)) → (k ≡ l) × (i ≡ j)
@@ -67,7 +69,8 @@ module _ (g : Declaration → ℕ) where
 -- ---- places
 
 -- what stands at a place of a layout
-pub placed_is : (slots : ℕ) (head fs : List Declaration) (k : ℕ) (p : Placed) → slice_get (layout slots head fs) k ≡ Some p → (slice_get fs k ≡ Some p.declared) × (p.first ≡ first_slot slots (head ++ take k fs) p.declared.kind)
+pub placed_is : (slots : ℕ) (head fs : List Declaration) (k : ℕ) (p : Placed) → slice_get (layout slots head fs) k ≡ Some p
+    → (slice_get fs k ≡ Some p.declared) × (p.first ≡ first_slot slots (head ++ take k fs) p.declared.kind)
 placed_is slots head [] k p at = absurd cc
 placed_is slots head (f ∷ fs) zero p at =
     let same = same_Some (record { declared = f; first = first_slot slots head f.kind }) p at in
@@ -76,7 +79,8 @@ placed_is slots head (f ∷ fs) (suc k) p at =
     let r = placed_is slots (head ++ f ∷ []) fs k p at in
     (r.0, r.1 ∙ ap (λ bs. first_slot slots bs p.declared.kind) (append_assoc head (f ∷ []) (take k fs)))
 
-pub is_placed : (slots : ℕ) (head fs : List Declaration) (k : ℕ) (f : Declaration) → slice_get fs k ≡ Some f → slice_get (layout slots head fs) k ≡ Some (record { declared = f; first = first_slot slots (head ++ take k fs) f.kind })
+pub is_placed : (slots : ℕ) (head fs : List Declaration) (k : ℕ) (f : Declaration) → slice_get fs k ≡ Some f
+    → slice_get (layout slots head fs) k ≡ Some (record { declared = f; first = first_slot slots (head ++ take k fs) f.kind })
 is_placed slots head [] k f at = absurd cc
 is_placed slots head (x ∷ fs) zero f at =
     let put : Declaration → Option Placed = λ g. Some (record { declared = g; first = first_slot slots head g.kind }) in
@@ -109,7 +113,8 @@ module _ (t : Schema) (lawful : IsSchema t) (class : ClassId) (lt : class.0 < le
       let where' : e.field.first ≡ ref_slots (take e.place fs) = first ∙ ap (λ b. cond b (ref_slots (take e.place fs)) ((t.slots - 1) - plain_slots (take e.place fs))) is in
       (omega arith, omega arith)
 
-  plain_first : (e : Element t class) → is_ref e.field.declared.kind ≡ false → (slot_of e.field e.element ≡ ((t.slots - 1) - plain_slots (take e.place fs)) - e.element) × (e.element < plain_count e.field.declared)
+  plain_first : (e : Element t class) → is_ref e.field.declared.kind ≡ false
+      → (slot_of e.field e.element ≡ ((t.slots - 1) - plain_slots (take e.place fs)) - e.element) × (e.element < plain_count e.field.declared)
   plain_first e is =
       let first = (placed_is t.slots [] fs e.place e.field e.is).1 in
       let count : plain_count e.field.declared ≡ e.field.declared.count = ap (λ b. cond b 0 e.field.declared.count) is in
@@ -134,7 +139,8 @@ module _ (t : Schema) (lawful : IsSchema t) (class : ClassId) (lt : class.0 < le
   slots_apart : (d e : Element t class) → slot_of d.field d.element ≡ slot_of e.field e.element → (d.place ≡ e.place) × (d.element ≡ e.element)
   slots_apart d e same = go (cases_Bool (is_ref d.field.declared.kind)) (cases_Bool (is_ref e.field.declared.kind))
     where
-      go : (is_ref d.field.declared.kind ≡ true) ⊎ (is_ref d.field.declared.kind ≡ false) → (is_ref e.field.declared.kind ≡ true) ⊎ (is_ref e.field.declared.kind ≡ false) → (d.place ≡ e.place) × (d.element ≡ e.element)
+      go : (is_ref d.field.declared.kind ≡ true) ⊎ (is_ref d.field.declared.kind ≡ false)
+          → (is_ref e.field.declared.kind ≡ true) ⊎ (is_ref e.field.declared.kind ≡ false) → (d.place ≡ e.place) × (d.element ≡ e.element)
       go (inl a) (inl b) =
           let x = ref_first d a in
           let y = ref_first e b in

@@ -1,5 +1,6 @@
 -- Walks, and what stays of them.
-use Rattle.std.proofs.Common.{◌≡◌, ℕ, zero, suc, add-one, ◌+◌, ◌-◌, ◌==◌, ◌<◌, ◌≤◌, Bool, true, false, List, [], ◌∷◌, ◌++◌, length, take, drop, refl, sym, ap, ◌∙◌, subst, arith, Option, Some, None, slice_get, get_or, drop-cons, IfSome, IsTrue, if◌then◌else◌}
+use Rattle.std.proofs.Common.{◌≡◌, ℕ, zero, suc, add-one, ◌+◌, ◌-◌, ◌==◌, ◌<◌, ◌≤◌, Bool, true, false, List, [], ◌∷◌, ◌++◌, length, take, drop, refl,
+    sym, ap, ◌∙◌, subst, arith, Option, Some, None, slice_get, get_or, drop-cons, IfSome, IsTrue, if◌then◌else◌}
 use Rattle.std.specs.Prelude.{option_and_then}
 use Rattle.std.specs.Option.{is_some}
 use Rattle.std.specs.List.{AllByRecursion}
@@ -59,11 +60,17 @@ outside_stays words chain i to out whole =
 
 -- ---- one more item in front
 
-pub pushed : (words : Words) (chain : Chain) (i : ℕ) → has (items words chain) i ≡ false → items (with_next words i chain.first) (record { first = Some i; count = chain.count + 1 }) ≡ i ∷ items words chain
+pub pushed : (words : Words) (chain : Chain) (i : ℕ) → has (items words chain) i ≡ false
+    → items (with_next words i chain.first) (record { first = Some i; count = chain.count + 1 }) ≡ i ∷ items words chain
 unfolding walk
-pushed words chain i out = rw add-one (ap (λ is. i ∷ is) (ap (walk (with_next words i chain.first) chain.count) (next_written words i chain.first) ∙ walk_outside words i chain.first chain.count chain.first out))
+pushed words chain i out =
+    rw add-one
+      (ap (λ is. i ∷ is)
+        (ap (walk (with_next words i chain.first) chain.count) (next_written words i chain.first)
+          ∙ walk_outside words i chain.first chain.count chain.first out))
 
-pub pushed_whole : (words : Words) (chain : Chain) (i : ℕ) → IsTold words i → has (items words chain) i ≡ false → IsChain words chain → IsChain (with_next words i chain.first) (record { first = Some i; count = chain.count + 1 })
+pub pushed_whole : (words : Words) (chain : Chain) (i : ℕ) → IsTold words i → has (items words chain) i ≡ false → IsChain words chain
+    → IsChain (with_next words i chain.first) (record { first = Some i; count = chain.count + 1 })
 unfolding AreDistinct
 pushed_whole words chain i told out whole =
     let is = pushed words chain i out in
@@ -96,7 +103,8 @@ front_whole words chain n le whole =
       distinct = subst AreDistinct (sym is) (distinct_split n (items words chain) whole.distinct).0;
     }
 
-pub rest_whole : (words : Words) (chain : Chain) (n : ℕ) (next : Option ℕ) → n ≤ chain.count → IsChain words chain → walk words (chain.count - n) next ≡ drop n (items words chain) → IsChain words (record { first = next; count = chain.count - n })
+pub rest_whole : (words : Words) (chain : Chain) (n : ℕ) (next : Option ℕ) → n ≤ chain.count → IsChain words chain
+    → walk words (chain.count - n) next ≡ drop n (items words chain) → IsChain words (record { first = next; count = chain.count - n })
 rest_whole words chain n next le whole is =
     let l = length-drop n (items words chain) in
     let m = whole.whole in
@@ -161,7 +169,8 @@ end_more words i [] to some = absurd (omega arith)
 end_more words i (j ∷ rest) to some = refl
 
 -- the walk over one chain goes on into the other
-walk_both : (words : Words) (m n total : ℕ) (at to : Option ℕ) → total ≡ (m + 1) + n → length (walk words (suc m) at) ≡ m + 1 → AreDistinct (walk words (suc m) at) → AreApart (walk words (suc m) at) (walk words n to)
+walk_both : (words : Words) (m n total : ℕ) (at to : Option ℕ) → total ≡ (m + 1) + n → length (walk words (suc m) at) ≡ m + 1
+    → AreDistinct (walk words (suc m) at) → AreApart (walk words (suc m) at) (walk words n to)
     → walk (with_end words (walk words (suc m) at) to) total at ≡ walk words (suc m) at ++ walk words n to
 unfolding walk with_end AreDistinct
 walk_both words m n total None to sum whole distinct apart = absurd (omega arith)
@@ -189,7 +198,9 @@ module _ (words : Words) (front back : Chain) (some : 0 < front.count) (one : Is
           let is : walk words front.count front.first ≡ walk words (suc m) front.first = ap (λ k. walk words k front.first) e in
           let whole = one.whole in
           let len : length (walk words (suc m) front.first) ≡ m + 1 = ap length (sym is) ∙ omega arith in
-          let on = walk_both words m back.count (front.count + back.count) front.first back.first (omega arith) len (subst AreDistinct is one.distinct) (subst (λ xs. AreApart xs (items words back)) is apart) in
+          let on =
+              walk_both words m back.count (front.count + back.count) front.first back.first (omega arith) len (subst AreDistinct is one.distinct)
+                (subst (λ xs. AreApart xs (items words back)) is apart) in
           subst (λ xs. walk (with_end words xs back.first) (front.count + back.count) front.first ≡ xs ++ items words back) (sym is) on
 
   pub both_whole : IsChain (with_end words (items words front) back.first) (record { first = front.first; count = front.count + back.count })
@@ -198,10 +209,15 @@ module _ (words : Words) (front back : Chain) (some : 0 < front.count) (one : Is
       let l = length-append (items words front) (items words back) in
       let a = one.whole in
       let b = two.whole in
-      let k : length (items (with_end words (items words front) back.first) (record { first = front.first; count = front.count + back.count })) ≡ length (items words front ++ items words back) = ap length is in
+      let k : length (items (with_end words (items words front) back.first) (record { first = front.first; count = front.count + back.count }))
+            ≡ length (items words front ++ items words back) = ap length is in
       record {
         whole = omega arith;
-        told = subst (AllByRecursion (IsTold (with_end words (items words front) back.first))) (sym is) (all_append (IsTold (with_end words (items words front) back.first)) (items words front) (items words back) (told_end words (items words front) back.first (items words front) one.told) (told_end words (items words front) back.first (items words back) two.told));
+        told =
+            subst (AllByRecursion (IsTold (with_end words (items words front) back.first))) (sym is)
+              (all_append (IsTold (with_end words (items words front) back.first)) (items words front) (items words back)
+                (told_end words (items words front) back.first (items words front) one.told)
+                (told_end words (items words front) back.first (items words back) two.told));
         distinct = subst AreDistinct (sym is) (distinct_append (items words front) (items words back) one.distinct two.distinct apart);
       }
 
@@ -279,7 +295,9 @@ ended_walk words zero at d = refl
 ended_walk words (suc n) None d = refl
 ended_walk words (suc n) (Some i) d = go (walk words n (next_of words i)) refl (ended_walk words n (next_of words i) d.1)
   where
-    go : (rest : List ℕ) → walk words n (next_of words i) ≡ rest → walk (with_end words (walk words n (next_of words i)) None) n (next_of words i) ≡ walk words n (next_of words i) → walk (with_end words (i ∷ rest) None) (suc n) (Some i) ≡ i ∷ rest
+    go : (rest : List ℕ) → walk words n (next_of words i) ≡ rest
+        → walk (with_end words (walk words n (next_of words i)) None) n (next_of words i) ≡ walk words n (next_of words i)
+        → walk (with_end words (i ∷ rest) None) (suc n) (Some i) ≡ i ∷ rest
     go [] e on = ap (λ is. i ∷ is) (ap (walk (with_next words i None) n) (next_written words i None) ∙ no_walk (with_next words i None) n)
     go (j ∷ more) e on =
         let out : has (j ∷ more) i ≡ false = ap (λ is. has is i) (sym e) ∙ d.0 in

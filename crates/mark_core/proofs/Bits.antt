@@ -44,7 +44,9 @@ bit_in f (suc n) i lt = go (eqb i n) refl (bit_in f n i)
         let same : i ≡ n = eqb-true i n e in
         let le : n ≤ i = omega (arith, same) in
         let none : i - n ≡ 0 = omega (arith, same) in
-        ap (λ (x : ℕ). bit_at x i) turned ∙ (bit_at_cat_high (bit (f n)) n (bits_word f n) i (bits-below f n) le ∙ (ap (bit_at (bit (f n))) none ∙ (bit_of (f n) ∙ ap (λ (j : ℕ). bit (f j)) (sym same))))
+        ap (λ (x : ℕ). bit_at x i) turned
+            ∙ (bit_at_cat_high (bit (f n)) n (bits_word f n) i (bits-below f n) le
+              ∙ (ap (bit_at (bit (f n))) none ∙ (bit_of (f n) ∙ ap (λ (j : ℕ). bit (f j)) (sym same))))
     go false e before =
         let off : i ≢ n = (λ same. let wrong : false ≡ true = sym e ∙ eq-eqb i n same in absurd cc) in
         let low : i < n = omega (arith, lt, off) in
@@ -66,15 +68,30 @@ word_put f g n k low here other = same_from_bits (bits_word g n) (bit_or (bits_w
     go i true e true at =
         let lt : i < n = search rules in
         let same : i ≡ k = eqb-true i k at in
-        bit_in g n i lt ∙ (ap (λ (j : ℕ). bit (g j)) same ∙ (ap bit here ∙ sym (bit_at_or (bits_word f n) (2 ^ k) i ∙ (ap (λ (x : ℕ). max x (bit_at (2 ^ k) i)) (bit_in f n i lt) ∙ (ap (λ (x : ℕ). max (bit (f i)) x) (ap (bit_at (2 ^ k)) same ∙ bit_at-pow_same k) ∙ with_one (f i))))))
+        bit_in g n i lt
+            ∙ (ap (λ (j : ℕ). bit (g j)) same
+              ∙ (ap bit here
+                ∙ sym
+                  (bit_at_or (bits_word f n) (2 ^ k) i
+                    ∙ (ap (λ (x : ℕ). max x (bit_at (2 ^ k) i)) (bit_in f n i lt)
+                      ∙ (ap (λ (x : ℕ). max (bit (f i)) x) (ap (bit_at (2 ^ k)) same ∙ bit_at-pow_same k) ∙ with_one (f i))))))
     go i true e false at =
         let lt : i < n = search rules in
         let off : i ≢ k = (λ same. let wrong : false ≡ true = sym at ∙ eq-eqb i k same in absurd cc) in
-        bit_in g n i lt ∙ (ap bit (other i off) ∙ sym (bit_at_or (bits_word f n) (2 ^ k) i ∙ (ap (λ (x : ℕ). max x (bit_at (2 ^ k) i)) (bit_in f n i lt) ∙ (ap (λ (x : ℕ). max (bit (f i)) x) (bit_at-pow_other k i off) ∙ with_none (f i)))))
+        bit_in g n i lt
+            ∙ (ap bit (other i off)
+              ∙ sym
+                (bit_at_or (bits_word f n) (2 ^ k) i
+                  ∙ (ap (λ (x : ℕ). max x (bit_at (2 ^ k) i)) (bit_in f n i lt)
+                    ∙ (ap (λ (x : ℕ). max (bit (f i)) x) (bit_at-pow_other k i off) ∙ with_none (f i)))))
     go i false e d at =
         let far : n ≤ i = search rules in
         let off : i ≢ k = (λ same. absurd (omega (arith, far, low, same))) in
-        bit_at_above (bits_word g n) n i (bits-below g n) far ∙ sym (bit_at_or (bits_word f n) (2 ^ k) i ∙ (ap (λ (x : ℕ). max x (bit_at (2 ^ k) i)) (bit_at_above (bits_word f n) n i (bits-below f n) far) ∙ ap (max 0) (bit_at-pow_other k i off)))
+        bit_at_above (bits_word g n) n i (bits-below g n) far
+            ∙ sym
+              (bit_at_or (bits_word f n) (2 ^ k) i
+                ∙ (ap (λ (x : ℕ). max x (bit_at (2 ^ k) i)) (bit_at_above (bits_word f n) n i (bits-below f n) far)
+                  ∙ ap (max 0) (bit_at-pow_other k i off)))
 
 -- one bit is cleared
 word_cut : (f g : ℕ → Bool) (k : ℕ) → k < 64 → g k ≡ false → ((i : ℕ) → i ≢ k → g i ≡ f i) → bits_word g 64 ≡ bit_and (bits_word f 64) (bit_not w64 (2 ^ k))
@@ -95,14 +112,18 @@ word_cut f g k low here other = same_from_bits (bits_word g 64) (bit_and (bits_w
     go i false e d at =
         let far : 64 ≤ i = search rules in
         let none_f : bit_at (bits_word f 64) i ≡ 0 = bit_at_above (bits_word f 64) 64 i (bits-below f 64) far in
-        bit_at_above (bits_word g 64) 64 i (bits-below g 64) far ∙ sym (bit_at_and (bits_word f 64) (bit_not w64 (2 ^ k)) i ∙ (ap (λ (x : ℕ). min x (bit_at (bit_not w64 (2 ^ k)) i)) none_f ∙ omega arith))
+        bit_at_above (bits_word g 64) 64 i (bits-below g 64) far
+            ∙ sym
+              (bit_at_and (bits_word f 64) (bit_not w64 (2 ^ k)) i ∙ (ap (λ (x : ℕ). min x (bit_at (bit_not w64 (2 ^ k)) i)) none_f ∙ omega arith))
 
 -- a word is zero exactly with no bits
 zero_bits : (f : ℕ → Bool) (n : ℕ) → bits_word f n ≡ 0 → (i : ℕ) → i < n → f i ≡ false
 zero_bits f n none i lt = go (f i) refl
   where
     go : (b : Bool) → f i ≡ b → b ≡ false
-    go true e = let one : bit_at (bits_word f n) i ≡ 1 = bit_in f n i lt ∙ ap bit e in let zero_at : bit_at (bits_word f n) i ≡ 0 = ap (λ (x : ℕ). bit_at x i) none ∙ bit_at-zero i in absurd (omega (arith, one, zero_at))
+    go true e = let one : bit_at (bits_word f n) i ≡ 1 = bit_in f n i lt ∙ ap bit e in
+        let zero_at : bit_at (bits_word f n) i ≡ 0 = ap (λ (x : ℕ). bit_at x i) none ∙ bit_at-zero i in
+        absurd (omega (arith, one, zero_at))
     go false e = refl
 
 bits_empty : (f : ℕ → Bool) → bits_word f 0 ≡ 0
@@ -111,7 +132,10 @@ bits_empty f = refl
 
 no_bits : (f : ℕ → Bool) (n : ℕ) → ((i : ℕ) → i < n → f i ≡ false) → bits_word f n ≡ 0
 no_bits f zero off = bits_empty f
-no_bits f (suc n) off = let rest = no_bits f n (λ i lt. off i (omega (arith, lt))) in let step = bits-suc f n in let last : bit (f n) ≡ 0 = ap bit (off n (omega arith)) in bits-suc f n ∙ (ap (λ (x : ℕ). x + bit (f n) * 2 ^ n) rest ∙ (ap (λ (x : ℕ). 0 + x * 2 ^ n) last ∙ omega arith))
+no_bits f (suc n) off = let rest = no_bits f n (λ i lt. off i (omega (arith, lt))) in
+    let step = bits-suc f n in
+    let last : bit (f n) ≡ 0 = ap bit (off n (omega arith)) in
+    bits-suc f n ∙ (ap (λ (x : ℕ). x + bit (f n) * 2 ^ n) rest ∙ (ap (λ (x : ℕ). 0 + x * 2 ^ n) last ∙ omega arith))
 
 pub bits_are_shown : BitsAreShown
 bits_are_shown f n = record { below = bits-below f n; each = bit_in f n; none = (zero_bits f n, no_bits f n) }

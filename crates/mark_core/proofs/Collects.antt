@@ -1,5 +1,6 @@
 -- The collector goes over the root set and over the rows.
-use Rattle.std.proofs.Common.{◌≡◌, ℕ, ◌+◌, ◌*◌, ◌/◌, ◌%◌, ◌<◌, ◌≤◌, ◌==◌, ◌&&◌, nat_le, nat_lt, is_none, refl, sym, subst, ap, ◌∙◌, inl, inr, zero, suc, arith, rules, Bool, cond, true, false, ◌⊎◌, Option, Some, None}
+use Rattle.std.proofs.Common.{◌≡◌, ℕ, ◌+◌, ◌*◌, ◌/◌, ◌%◌, ◌<◌, ◌≤◌, ◌==◌, ◌&&◌, nat_le, nat_lt, is_none, refl, sym, subst, ap, ◌∙◌, inl, inr, zero,
+    suc, arith, rules, Bool, cond, true, false, ◌⊎◌, Option, Some, None}
 use Rattle.std.proofs.lemmas.Bool.{eqb-true, eq-eqb}
 use Rattle.mark_core.specs.Changes.{set_at}
 use Rattle.mark_core.specs.Machine.{Phase, Marking, Place, Nowhere, InRow, Job, NoJob, Roots, Look, Sizes, Core, root_places, words, same_place, row_bit}
@@ -92,7 +93,12 @@ root_settled z c u p at on h = record {
   cells = h.cells;
   root_set = h.root_set;
   held = h.held;
-  found = record { markers = h.found.markers; own = λ v e. at_set (λ b. b ≡ true → is_live c.phase c.doomed c.marked v ≡ true) c.own_found u false v (λ s wrong. absurd cc) (λ n f. h.found.own v f) e };
+  found =
+      record { markers = h.found.markers;
+        own =
+          λ v e.
+            at_set (λ b. b ≡ true → is_live c.phase c.doomed c.marked v ≡ true) c.own_found u false v (λ s wrong. absurd cc) (λ n f. h.found.own v f)
+              e };
   idle = h.idle;
 }
   where
@@ -126,7 +132,8 @@ nat_le_true : (a b : ℕ) → nat_le a b ≡ true → a ≤ b
 nat_le_true a b e = search rules
 
 -- when Roots is done nothing is in hand or found, and all places are loaded
-done_work : (z : Sizes) (job : Job) (hand : Option ℕ) (found : ℕ → Bool) → ((u : ℕ) → z.units ≤ u → found u ≡ false) → roots_done z job hand found ≡ true → (hand ≡ None) × FoundNone found × ((p : ℕ) → p < root_places z → Unloaded job p → ⊥)
+done_work : (z : Sizes) (job : Job) (hand : Option ℕ) (found : ℕ → Bool) → ((u : ℕ) → z.units ≤ u → found u ≡ false)
+    → roots_done z job hand found ≡ true → (hand ≡ None) × FoundNone found × ((p : ℕ) → p < root_places z → Unloaded job p → ⊥)
 done_work z NoJob hand found far e = absurd cc
 done_work z (Look r w) hand found far e = absurd cc
 done_work z (Roots p) hand found far e =
@@ -172,7 +179,8 @@ rested z c h = go (roots_done z c.job c.own_hand c.own_found) refl
           idle = h.idle;
         }
       where
-        pick : FoundNone c.own_found → ((p : ℕ) → p < root_places z → Unloaded c.job p → ⊥) → (q v : ℕ) → c.root q ≡ Some v → (c.marked v ≡ true) ⊎ (Unloaded c.job q ⊎ (c.own_found v ≡ true)) → (c.marked v ≡ true) ⊎ (⊥ ⊎ (c.own_found v ≡ true))
+        pick : FoundNone c.own_found → ((p : ℕ) → p < root_places z → Unloaded c.job p → ⊥) → (q v : ℕ) → c.root q ≡ Some v
+            → (c.marked v ≡ true) ⊎ (Unloaded c.job q ⊎ (c.own_found v ≡ true)) → (c.marked v ≡ true) ⊎ (⊥ ⊎ (c.own_found v ≡ true))
         pick none all q v at (inl on) = inl on
         pick none all q v at (inr (inl un)) = absurd (all q (h.root_set q v at).0 un)
         pick none all q v at (inr (inr has_v)) = inr (inr has_v)

@@ -1,11 +1,16 @@
 -- A marking can end: events that lead to a commit.
-use Rattle.std.proofs.Common.{◌≡◌, ℕ, zero, suc, ◌+◌, ◌-◌, ◌*◌, ◌/◌, ◌%◌, ◌<◌, ◌≤◌, ◌==◌, ◌&&◌, nat_lt, nat_le, refl, sym, subst, ap, ◌∙◌, inl, inr, arith, rules, Bool, cond, true, false, not, List, [], ◌∷◌, ◌⊎◌, Option, Some, None}
+use Rattle.std.proofs.Common.{◌≡◌, ℕ, zero, suc, ◌+◌, ◌-◌, ◌*◌, ◌/◌, ◌%◌, ◌<◌, ◌≤◌, ◌==◌, ◌&&◌, nat_lt, nat_le, refl, sym, subst, ap, ◌∙◌, inl, inr,
+    arith, rules, Bool, cond, true, false, not, List, [], ◌∷◌, ◌⊎◌, Option, Some, None}
 use Rattle.std.proofs.lemmas.Bool.{eqb-true, eq-eqb}
 use Rattle.std.proofs.lemmas.Nat.{div_below, div-add-mod'}
 use Rattle.std.proofs.Math.Nat.{mod-lt}
 use Rattle.mark_core.specs.Changes.{set_at, has, is_empty}
-use Rattle.mark_core.specs.Machine.{Marking, Gathering, Actor, Lane, Marker, Collector, CellOf, StrongOf, Place, Nowhere, InRow, OnStack, UnderScan, InHand, InCollector, Scan, Job, NoJob, Roots, Look, Sizes, strong_place, root_places, words, Core, count_below, frames, same_place}
-use Rattle.mark_core.specs.Steps.{Step, FrameOpen, FrameClose, Shade, LoadCell, AddRow, TakeRow, SetDirty, ClearDirty, LoadRow, CommitExchange, LoadHead, DoomHead, Settle, RootBit, IsFree, LaneMay, after_lane, none_set, no_stack, looked_all, behind, marks, moves_on, finds, goes_on, starts, is_roots, found_of, marker_loads, finds_root, rests, roots_done, is_zero_word, next_word, looks, commits_by, MarkerMay, CollectorMay, Allowed, after_marker, after_step}
+use Rattle.mark_core.specs.Machine.{Marking, Gathering, Actor, Lane, Marker, Collector, CellOf, StrongOf, Place, Nowhere, InRow, OnStack, UnderScan,
+    InHand, InCollector, Scan, Job, NoJob, Roots, Look, Sizes, strong_place, root_places, words, Core, count_below, frames, same_place}
+use Rattle.mark_core.specs.Steps.{Step, FrameOpen, FrameClose, Shade, LoadCell, AddRow, TakeRow, SetDirty, ClearDirty, LoadRow, CommitExchange,
+    LoadHead, DoomHead, Settle, RootBit, IsFree, LaneMay, after_lane, none_set, no_stack, looked_all, behind, marks, moves_on, finds, goes_on, starts,
+    is_roots, found_of, marker_loads, finds_root, rests, roots_done, is_zero_word, next_word, looks, commits_by, MarkerMay, CollectorMay, Allowed,
+    after_marker, after_step}
 use Rattle.mark_core.specs.Lawful.{Lawful, AtWork, FoundNone}
 use Rattle.mark_core.specs.Laws.{Commits}
 use Rattle.mark_core.specs.GoesOn.{LooksInRange, GoesOn, LeadsTo, MarkingsCanEnd, IsIdle, GatheringsCanEnd}
@@ -72,7 +77,9 @@ marker_in z c m on h = go (nat_lt m z.markers) refl
 
 module _ (z : Sizes) (c : Core) (stop : (r w : ℕ) → is_zero_word c.place r w ≡ false → LeadsToCommit z (record c { job = NoJob })) (last : LeadsToCommit z (record c { job = looked_all z })) where
   after_word : (r w : ℕ) → r ≤ z.markers → w < words z → LeadsToCommit z (record c { job = next_word z r w }) → LeadsToCommit z (record c { job = Look r w })
-  after_word r w row word next = more z (record c { job = Look r w }) Collector (LoadRow r w) (row, word) (subst (λ (j : Job). LeadsToCommit z (record c { job = j })) (sym looked) (pick (is_zero_word c.place r w) refl))
+  after_word r w row word next =
+      more z (record c { job = Look r w }) Collector (LoadRow r w) (row, word)
+        (subst (λ (j : Job). LeadsToCommit z (record c { job = j })) (sym looked) (pick (is_zero_word c.place r w) refl))
     where
       same : ((r == r) && (w == w)) ≡ true
       same = ap (λ (b : Bool). b && (w == w)) (eq-eqb r r refl) ∙ eq-eqb w w refl
@@ -184,7 +191,8 @@ closing z (suc k) c le q shut = go (c.marker_open k) (c.marker_owes k) refl refl
     empty : (d : Core) → Quiet z d → no_stack z d.place k ≡ true
     empty d p = none_set_from (λ u. same_place (d.place u) (OnStack k)) z.units (λ u. nowhere_stack (d.place u) k (p.places u))
 
-    close : (d : Core) → Quiet z d → d.marker_open k ≡ true → d.marker_owes k ≡ false → ((m : ℕ) → suc k ≤ m → d.marker_open m ≡ false) → ((e : Core) → k ≤ z.markers → Quiet z e → ((m : ℕ) → k ≤ m → e.marker_open m ≡ false) → LeadsToCommit z e) → LeadsToCommit z d
+    close : (d : Core) → Quiet z d → d.marker_open k ≡ true → d.marker_owes k ≡ false → ((m : ℕ) → suc k ≤ m → d.marker_open m ≡ false)
+        → ((e : Core) → k ≤ z.markers → Quiet z e → ((m : ℕ) → k ≤ m → e.marker_open m ≡ false) → LeadsToCommit z e) → LeadsToCommit z d
     close d p on clear far next =
         let may : MarkerMay z d k FrameClose = (on, no_scan d p, clear, empty d p) in
         more z d (Marker k) FrameClose (omega arith, may)
@@ -192,7 +200,8 @@ closing z (suc k) c le q shut = go (c.marker_open k) (c.marker_owes k) refl refl
         (record { marks = marker_marks z d k FrameClose (omega arith) may p.marks; job = p.job; places = p.places })
         (shut_from (set_at d.marker_open k false) k (λ m le_m. at_set (λ b. b ≡ false) d.marker_open k false m (λ same. refl) (λ n. far m le_m)) (set_here d.marker_open k false k refl)))
 
-    go : (opened owes : Bool) → c.marker_open k ≡ opened → c.marker_owes k ≡ owes → ((e : Core) → k ≤ z.markers → Quiet z e → ((m : ℕ) → k ≤ m → e.marker_open m ≡ false) → LeadsToCommit z e) → LeadsToCommit z c
+    go : (opened owes : Bool) → c.marker_open k ≡ opened → c.marker_owes k ≡ owes
+        → ((e : Core) → k ≤ z.markers → Quiet z e → ((m : ℕ) → k ≤ m → e.marker_open m ≡ false) → LeadsToCommit z e) → LeadsToCommit z c
     go false owes off o next = next c (omega arith) q (shut_from c.marker_open k shut off)
     go true false on clear next = close c q on clear shut next
     go true true on owes next =
@@ -234,7 +243,8 @@ module _ (z : Sizes) (c : Core) (h : Marks z c) (idle : c.job ≡ NoJob) where
           let own : has (c.cells s.unit) n ≡ true = h.lawful.scans_own m s n at (ap (λ (xs : List ℕ). has xs n) e ∙ first) in
           let is : c.scan m ≡ Some (record { unit = s.unit; left = n ∷ rest; found = None }) = at ∙ (λ i. Some (record { unit = s.unit; left = e i; found = f i })) in
           moved_by z c m (LoadCell (CellOf s.unit n)) lt (rest, is, own) h idle
-          (subst (λ (d : Core). weight z d < weight z c) (finds_only c m (c.scan m) (c.cell n)) (subst (λ (o : Option Scan). weight z (finds c m o (c.cell n)) < weight z c) (sym at) (loads (c.cell n))))
+          (subst (λ (d : Core). weight z d < weight z c) (finds_only c m (c.scan m) (c.cell n))
+              (subst (λ (o : Option Scan). weight z (finds c m o (c.cell n)) < weight z c) (sym at) (loads (c.cell n))))
         where
           first : has (n ∷ rest) n ≡ true
           first = or_left (n == n) (has rest n) (eq-eqb n n refl)
@@ -245,7 +255,8 @@ module _ (z : Sizes) (c : Core) (h : Marks z c) (idle : c.job ≡ NoJob) where
       go (n ∷ rest) e (Some t) f =
           let found : found_of (c.scan m) ≡ Some t = ap found_of at ∙ f in
           moved_by z c m (Shade t) lt (h.marking, found) h idle
-          (subst (λ (d : Core). weight z d < weight z c) (moves_only (marks c t (OnStack m)) m (c.scan m)) (subst (λ (o : Option Scan). weight z (moves_on (marks c t (OnStack m)) m o) < weight z c) (sym at) settles))
+          (subst (λ (d : Core). weight z d < weight z c) (moves_only (marks c t (OnStack m)) m (c.scan m))
+              (subst (λ (o : Option Scan). weight z (moves_on (marks c t (OnStack m)) m o) < weight z c) (sym at) settles))
         where
           shaded : Lawful z (marks c t (OnStack m))
           shaded = marker_shades z c m t (scans_open z c m s at h.lawful) h.marking (live_alive c.phase c.doomed c.marked t (h.lawful.found.markers m s t at f)) h.lawful
@@ -264,7 +275,9 @@ module _ (z : Sizes) (c : Core) (h : Marks z c) (idle : c.job ≡ NoJob) where
       go (Some s) e = scan_moves m s e
       go None e =
           moved_by z c m (LoadHead u) (marker_in z c m opened h.lawful) (grey_in z c u (λ none. absurd cc) h.lawful) h idle
-          (subst (λ (d : Core). weight z d < weight z c) (head_only c m u (c.scan m)) (subst (λ (o : Option Scan). weight z (marker_loads c m u o) < weight z c) (sym e) (subst (λ (b : Bool). weight z (cond b (starts c m u (c.cells u)) c) < weight z c) (sym here) (starts_less z c m u e at h.lawful))))
+          (subst (λ (d : Core). weight z d < weight z c) (head_only c m u (c.scan m))
+              (subst (λ (o : Option Scan). weight z (marker_loads c m u o) < weight z c) (sym e)
+                (subst (λ (b : Bool). weight z (cond b (starts c m u (c.cells u)) c) < weight z c) (sym here) (starts_less z c m u e at h.lawful))))
         where
           here : same_place (c.place u) (OnStack m) ≡ true
           here = ap (λ (p : Place). same_place p (OnStack m)) at ∙ eq-eqb m m refl
@@ -348,7 +361,8 @@ finish z (suc n) c some h idle less = go (find_one (λ u. is_grey (c.place u)) z
         pick (inl lt) = grey_not (c.place u) (none_set_is (λ v. is_grey (c.place v)) z.units none u lt)
         pick (inr far) = h.lawful.grey.doomed_is u (h.lawful.beyond u far)
 
-    go : ((u : ℕ) × (is_grey (c.place u) ≡ true)) ⊎ (none_set (λ u. is_grey (c.place u)) z.units ≡ true) → ((d : Core) → 0 < z.markers → Marks z d → d.job ≡ NoJob → weight z d < n → LeadsToCommit z d) → LeadsToCommit z c
+    go : ((u : ℕ) × (is_grey (c.place u) ≡ true)) ⊎ (none_set (λ u. is_grey (c.place u)) z.units ≡ true)
+        → ((d : Core) → 0 < z.markers → Marks z d → d.job ≡ NoJob → weight z d < n → LeadsToCommit z d) → LeadsToCommit z c
     go (inl one) next = let m = move z c one.0 some (grey_is (c.place one.0) one.1) h idle in m.back (next m.next some m.marks m.job (let fewer = m.less in omega arith))
     go (inr none) next = closing z z.markers c (omega arith) (record { marks = h; job = idle; places = nowhere none }) (λ m far. h.lawful.open_in.markers m far)
 
@@ -421,7 +435,8 @@ gather z (suc n) c p some at h less = go c.own_hand refl (find_one c.own_found z
     small_hand u empty true = let no_hand : hand_left c.own_hand ≡ 0 = ap hand_left empty in omega arith
     small_hand u empty false = omega arith
 
-    go : (hand : Option ℕ) → c.own_hand ≡ hand → ((u : ℕ) × (c.own_found u ≡ true)) ⊎ (none_set c.own_found z.units ≡ true) → ((d : Core) (q : ℕ) → d.job ≡ Roots q → Marks z d → roots_left z q d.own_hand d.own_found < n → LeadsToCommit z d) → LeadsToCommit z c
+    go : (hand : Option ℕ) → c.own_hand ≡ hand → ((u : ℕ) × (c.own_found u ≡ true)) ⊎ (none_set c.own_found z.units ≡ true)
+        → ((d : Core) (q : ℕ) → d.job ≡ Roots q → Marks z d → roots_left z q d.own_hand d.own_found < n → LeadsToCommit z d) → LeadsToCommit z c
     go (Some u) e found next =
         let may : CollectorMay z c (AddRow z.markers u) = (h.lawful.standing.in_own u e, refl) in
         let one : hand_left c.own_hand ≡ 1 = ap hand_left e in
@@ -436,7 +451,10 @@ gather z (suc n) c p some at h less = go c.own_hand refl (find_one c.own_found z
         let small = small_hand one.0 e (c.marked one.0) in
         more z c Collector (Shade one.0) may
         (rested_on z some n next (record (marks c one.0 InCollector) { own_hand = cond (c.marked one.0) c.own_hand (Some one.0); own_found = set_at c.own_found one.0 false }) p at (omega arith)
-        (goes_by (record (marks c one.0 InCollector) { own_hand = cond (c.marked one.0) c.own_hand (Some one.0); own_found = set_at c.own_found one.0 false }) h.marking h.lanes refl h.goes.looks (step_lawful z c Collector (Shade one.0) may h.lawful)))
+        (goes_by
+            (record (marks c one.0 InCollector)
+              { own_hand = cond (c.marked one.0) c.own_hand (Some one.0); own_found = set_at c.own_found one.0 false }) h.marking h.lanes refl
+            h.goes.looks (step_lawful z c Collector (Shade one.0) may h.lawful)))
     go None e (inr none) next = pick (in_or_beyond z p)
       where
         pick : (p < z.units) ⊎ (z.units ≤ p) → LeadsToCommit z c
@@ -448,8 +466,14 @@ gather z (suc n) c p some at h less = go c.own_hand refl (find_one c.own_found z
             let spot = strong_at z p far (roots_on z c p at e none h.goes) in
             let may : CollectorMay z c (LoadCell (StrongOf spot.0 spot.1)) = (at ∙ ap Roots (sym spot.4), spot.2, spot.3) in
             more z c Collector (LoadCell (StrongOf spot.0 spot.1)) may
-            (rested_on z some n next (record c { job = Roots (strong_place z spot.0 spot.1 + 1); own_found = finds_root c.own_found (c.root (strong_place z spot.0 spot.1)) }) (strong_place z spot.0 spot.1 + 1) refl (loaded (strong_place z spot.0 spot.1) spot.4 e none)
-            (goes_by (record c { job = Roots (strong_place z spot.0 spot.1 + 1); own_found = finds_root c.own_found (c.root (strong_place z spot.0 spot.1)) }) h.marking h.lanes refl tt (step_lawful z c Collector (LoadCell (StrongOf spot.0 spot.1)) may h.lawful)))
+            (rested_on z some n next
+                (record c
+                  { job = Roots (strong_place z spot.0 spot.1 + 1); own_found = finds_root c.own_found (c.root (strong_place z spot.0 spot.1)) })
+                (strong_place z spot.0 spot.1 + 1) refl (loaded (strong_place z spot.0 spot.1) spot.4 e none)
+            (goes_by
+                (record c
+                  { job = Roots (strong_place z spot.0 spot.1 + 1); own_found = finds_root c.own_found (c.root (strong_place z spot.0 spot.1)) })
+                h.marking h.lanes refl tt (step_lawful z c Collector (LoadCell (StrongOf spot.0 spot.1)) may h.lawful)))
 
 -- ---- whatever the collector is at
 
@@ -461,7 +485,11 @@ lanes_closed z c some marking lanes goes h = go c.job refl
 
     -- the collector stopped to look
     stopped : (r w : ℕ) → c.job ≡ Look r w → LeadsToCommit z (record c { job = NoJob })
-    stopped r w e = finished z (record c { job = NoJob }) some (record { marking = marking; lanes = lanes; goes = record { scans = goes.scans; roots = refl; looks = tt }; lawful = look_stopped z c r w e h }) refl
+    stopped r w e =
+        finished z (record c { job = NoJob }) some
+          (record
+            { marking = marking; lanes = lanes; goes = record { scans = goes.scans; roots = refl; looks = tt }; lawful = look_stopped z c r w e h })
+          refl
 
     looked : LeadsToCommit z (record c { job = NoJob }) → LeadsToCommit z (record c { job = looked_all z })
     looked stop = pick (frames z c == 0) (c.dirty) refl refl
@@ -502,19 +530,23 @@ lanes_close z (suc k) c le some h shut = go (c.lane_open k) refl (λ d runs clos
     lt : k < z.lanes
     lt = omega arith
 
-    close : (d : Core) → IsFree d k → Runs z d → ((l : ℕ) → suc k ≤ l → d.lane_open l ≡ false) → ((e : Core) → Runs z e → ((l : ℕ) → k ≤ l → e.lane_open l ≡ false) → LeadsToCommit z e) → LeadsToCommit z d
+    close : (d : Core) → IsFree d k → Runs z d → ((l : ℕ) → suc k ≤ l → d.lane_open l ≡ false)
+        → ((e : Core) → Runs z e → ((l : ℕ) → k ≤ l → e.lane_open l ≡ false) → LeadsToCommit z e) → LeadsToCommit z d
     close d free runs far next =
         more z d (Lane k) FrameClose (lt, free)
         (next (after_lane z d k FrameClose) (lane_runs z d k FrameClose lt free refl runs)
         (shut_from (set_at d.lane_open k false) k (λ l le_l. at_set (λ b. b ≡ false) d.lane_open k false l (λ same. refl) (λ n. far l le_l)) (set_here d.lane_open k false k refl)))
 
-    settle : (d : Core) → d.lane_open k ≡ true → d.hand k ≡ None → (owes : Bool) → d.lane_owes k ≡ owes → Runs z d → ((l : ℕ) → suc k ≤ l → d.lane_open l ≡ false) → ((e : Core) → Runs z e → ((l : ℕ) → k ≤ l → e.lane_open l ≡ false) → LeadsToCommit z e) → LeadsToCommit z d
+    settle : (d : Core) → d.lane_open k ≡ true → d.hand k ≡ None → (owes : Bool) → d.lane_owes k ≡ owes → Runs z d
+        → ((l : ℕ) → suc k ≤ l → d.lane_open l ≡ false) → ((e : Core) → Runs z e → ((l : ℕ) → k ≤ l → e.lane_open l ≡ false) → LeadsToCommit z e)
+        → LeadsToCommit z d
     settle d on empty false clear runs far next = close d (record { opened = on; hand = empty; owes = clear }) runs far next
     settle d on empty true owes runs far next =
         more z d (Lane k) SetDirty (lt, owes)
         (close (after_lane z d k SetDirty) (record { opened = on; hand = empty; owes = set_here d.lane_owes k false k refl }) (lane_runs z d k SetDirty lt owes refl runs) far next)
 
-    empties : (d : Core) → d.lane_open k ≡ true → (hand : Option ℕ) → d.hand k ≡ hand → Runs z d → ((l : ℕ) → suc k ≤ l → d.lane_open l ≡ false) → ((e : Core) → Runs z e → ((l : ℕ) → k ≤ l → e.lane_open l ≡ false) → LeadsToCommit z e) → LeadsToCommit z d
+    empties : (d : Core) → d.lane_open k ≡ true → (hand : Option ℕ) → d.hand k ≡ hand → Runs z d → ((l : ℕ) → suc k ≤ l → d.lane_open l ≡ false)
+        → ((e : Core) → Runs z e → ((l : ℕ) → k ≤ l → e.lane_open l ≡ false) → LeadsToCommit z e) → LeadsToCommit z d
     empties d on None empty runs far next = settle d on empty (d.lane_owes k) refl runs far next
     empties d on (Some u) has_u runs far next =
         let may : LaneMay z d k (AddRow z.markers u) = (runs.lawful.standing.in_hand k u has_u, refl) in
@@ -548,7 +580,8 @@ dooming z (suc n) c gathering h less = go (find_one (λ u. not (c.doomed u) && n
         (let gone : white_at (set_at c.doomed u true u) (c.marked u) ≡ 0 = ap (λ (d : Bool). white_at d (c.marked u)) (set_here c.doomed u true u refl) in
         let one : white_at (c.doomed u) (c.marked u) ≡ 1 = (λ i. white_at (alive i) (white i)) in omega arith)
 
-    go : ((u : ℕ) × ((not (c.doomed u) && not (c.marked u)) ≡ true)) ⊎ (none_set (λ u. not (c.doomed u) && not (c.marked u)) z.units ≡ true) → ((d : Core) → d.phase ≡ Gathering → Lawful z d → whites z d < n → LeadsTo IsIdle z d) → LeadsTo IsIdle z c
+    go : ((u : ℕ) × ((not (c.doomed u) && not (c.marked u)) ≡ true)) ⊎ (none_set (λ u. not (c.doomed u) && not (c.marked u)) z.units ≡ true)
+        → ((d : Core) → d.phase ≡ Gathering → Lawful z d → whites z d < n → LeadsTo IsIdle z d) → LeadsTo IsIdle z c
     go (inl one) next =
         let parts = and_true (not (c.doomed one.0)) (not (c.marked one.0)) one.1 in
         let alive = not_true (c.doomed one.0) parts.0 in

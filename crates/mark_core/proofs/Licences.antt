@@ -10,7 +10,8 @@ use Rattle.mark_core.proofs.Steps.{marker_step, grey_marking}
 use Rattle.mark_core.proofs.Once.{marker_ends}
 
 -- When a scan ends, the unit was grey, and all that its cells point to is marked
-pub scan_closed : (z : Sizes) (c : Core) (m : ℕ) (e : Step) (u : ℕ) → m < z.markers → MarkerMay z c m e → Lawful z c → scanned_by c (Marker m) e ≡ Some u → (k v : ℕ) → has (c.cells u) k ≡ true → c.cell k ≡ Some v → (after_marker z c m e).marked v ≡ true
+pub scan_closed : (z : Sizes) (c : Core) (m : ℕ) (e : Step) (u : ℕ) → m < z.markers → MarkerMay z c m e → Lawful z c
+    → scanned_by c (Marker m) e ≡ Some u → (k v : ℕ) → has (c.cells u) k ≡ true → c.cell k ≡ Some v → (after_marker z c m e).marked v ≡ true
 scan_closed z c m (Shade w) u lt may h is k v small cell =
     let h2 = marker_step z c m (Shade w) lt may h in
     let ended = marker_ends z c m (Shade w) u h is in

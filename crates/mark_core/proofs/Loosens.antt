@@ -12,7 +12,10 @@ use Rattle.mark_core.proofs.Makes.{live_same}
 
 -- the place v, so far without a unit, gets a marked one, and cells, root set and held units are what is given
 abbrev rewires : Core → ℕ → (ℕ → List ℕ) → (ℕ → Option ℕ) → (ℕ → Option ℕ) → (ℕ → ℕ → Bool) → Core
-rewires c v cells cell root holds = record c { doomed = set_at c.doomed v false; marked = set_at c.marked v true; cells = cells; cell = cell; root = root; scanned = set_at c.scanned v false; holds = holds }
+rewires c v cells cell root holds =
+    record c
+      { doomed = set_at c.doomed v false; marked = set_at c.marked v true; cells = cells; cell = cell; root = root;
+        scanned = set_at c.scanned v false; holds = holds }
 
 -- each new reference is an old one to a unit in the world, or names the new unit; closed lanes hold nothing
 record Rewires (z : Sizes) (c : Core) (v : ℕ) (cells : ℕ → List ℕ) (cell : ℕ → Option ℕ) (root : ℕ → Option ℕ) (holds : ℕ → ℕ → Bool) : Type 0 where
@@ -21,7 +24,8 @@ record Rewires (z : Sizes) (c : Core) (v : ℕ) (cells : ℕ → List ℕ) (cell
   held : (l t : ℕ) → holds l t ≡ true → (t ≡ v) ⊎ (is_live c.phase c.doomed c.marked t ≡ true)
   held_in : (l t : ℕ) → c.lane_open l ≡ false → holds l t ≡ false
 
-rewired : (z : Sizes) (c : Core) (v : ℕ) (cells : ℕ → List ℕ) (cell : ℕ → Option ℕ) (root : ℕ → Option ℕ) (holds : ℕ → ℕ → Bool) → (c.phase ≡ Marking → ⊥) → v < z.units → c.doomed v ≡ true → Rewires z c v cells cell root holds
+rewired : (z : Sizes) (c : Core) (v : ℕ) (cells : ℕ → List ℕ) (cell : ℕ → Option ℕ) (root : ℕ → Option ℕ) (holds : ℕ → ℕ → Bool)
+    → (c.phase ≡ Marking → ⊥) → v < z.units → c.doomed v ≡ true → Rewires z c v cells cell root holds
     → Lawful z c → Lawful z (rewires c v cells cell root holds)
 rewired z c v cells cell root holds out lt dead new h = record {
   beyond = λ u far. at_set (λ b. b ≡ true) c.doomed v false u (λ e. absurd (omega arith)) (λ o. h.beyond u far);
@@ -35,7 +39,10 @@ rewired z c v cells cell root holds out lt dead new h = record {
   grey = record {
     marked_is = λ u off. (h.quiet out).places u;
     doomed_is = λ u off. (h.quiet out).places u;
-    scanned_is = λ u. at_set (λ b. b ≡ true → (c.place u ≡ Nowhere) × (set_at c.marked v true u ≡ true)) c.scanned v false u (λ e wrong. absurd cc) (λ o done. let was = h.grey.scanned_is u done in (was.0, grows_one c.marked v u was.1));
+    scanned_is =
+        λ u.
+          at_set (λ b. b ≡ true → (c.place u ≡ Nowhere) × (set_at c.marked v true u ≡ true)) c.scanned v false u (λ e wrong. absurd cc)
+            (λ o done. let was = h.grey.scanned_is u done in (was.0, grows_one c.marked v u was.1));
   };
   black = λ m. absurd (out m);
   roots = λ m. absurd (out m);
@@ -91,7 +98,8 @@ renamed_was at u v names n t = go (names n) refl (at n)
 
 pub loosened : LooseningIsLawful
 loosened z c u v own left bit by_cell by_strong may h =
-    rewired z c v (set_at (set_at c.cells u left) v own) (renames by_cell u v c.cell) (renames (λ p. (p == bit) || by_strong p) u v c.root) (λ lane t. c.holds lane (cond (t == v) u t)) may.outside may.place may.free
+    rewired z c v (set_at (set_at c.cells u left) v own) (renames by_cell u v c.cell) (renames (λ p. (p == bit) || by_strong p) u v c.root)
+        (λ lane t. c.holds lane (cond (t == v) u t)) may.outside may.place may.free
     (record {
       to_live = λ w k t has_k e world. to_live w k t has_k world (renamed by_cell u v c.cell k t e);
       roots = λ p t e. (let was = renamed_was (λ q. (q == bit) || by_strong q) u v c.root p t e in (h.root_set p was.0 was.1).0, root p t (renamed (λ q. (q == bit) || by_strong q) u v c.root p t e));
@@ -100,7 +108,8 @@ loosened z c u v own left bit by_cell by_strong may h =
     }) h
   where
     -- a cell of a unit now is one of a unit in the world before
-    of_live : (w k : ℕ) → has (set_at (set_at c.cells u left) v own w) k ≡ true → (w ≡ v) ⊎ (is_live c.phase c.doomed c.marked w ≡ true) → (x : ℕ) × (is_live c.phase c.doomed c.marked x ≡ true) × (has (c.cells x) k ≡ true)
+    of_live : (w k : ℕ) → has (set_at (set_at c.cells u left) v own w) k ≡ true → (w ≡ v) ⊎ (is_live c.phase c.doomed c.marked w ≡ true)
+        → (x : ℕ) × (is_live c.phase c.doomed c.marked x ≡ true) × (has (c.cells x) k ≡ true)
     of_live w k has_k world = at_set (λ (xs : List ℕ). has xs k ≡ true → (x : ℕ) × (is_live c.phase c.doomed c.marked x ≡ true) × (has (c.cells x) k ≡ true)) (set_at c.cells u left) v own w
         (λ e mine. (u, may.unit, subst (λ (xs : List ℕ). has xs k ≡ true) (sym may.parts) (has-append left own k (inr mine))))
         (λ n. at_set (λ (xs : List ℕ). has xs k ≡ true → (x : ℕ) × (is_live c.phase c.doomed c.marked x ≡ true) × (has (c.cells x) k ≡ true)) c.cells u left w
@@ -111,7 +120,8 @@ loosened z c u v own left bit by_cell by_strong may h =
         other n (inl e) = absurd (n e)
         other n (inr live) = live
 
-    to_live : (w k t : ℕ) → has (set_at (set_at c.cells u left) v own w) k ≡ true → (w ≡ v) ⊎ (is_live c.phase c.doomed c.marked w ≡ true) → (t ≡ v) ⊎ (c.cell k ≡ Some t) → (t ≡ v) ⊎ (is_live c.phase c.doomed c.marked t ≡ true)
+    to_live : (w k t : ℕ) → has (set_at (set_at c.cells u left) v own w) k ≡ true → (w ≡ v) ⊎ (is_live c.phase c.doomed c.marked w ≡ true)
+        → (t ≡ v) ⊎ (c.cell k ≡ Some t) → (t ≡ v) ⊎ (is_live c.phase c.doomed c.marked t ≡ true)
     to_live w k t has_k world (inl e) = inl e
     to_live w k t has_k world (inr e) = let was = of_live w k has_k world in inr (h.cells was.0 k t was.1 was.2 e)
 

@@ -43,7 +43,10 @@ made_lawful z c l u n on lt dead h = record {
   grey = record {
     marked_is = λ v. at_set (λ b. b ≡ false → c.place v ≡ Nowhere) c.marked u true v (λ e wrong. absurd cc) (λ o. h.grey.marked_is v);
     doomed_is = λ v. at_set (λ b. b ≡ true → c.place v ≡ Nowhere) c.doomed u false v (λ e wrong. absurd cc) (λ o. h.grey.doomed_is v);
-    scanned_is = λ v. at_set (λ b. b ≡ true → (c.place v ≡ Nowhere) × (set_at c.marked u true v ≡ true)) c.scanned u false v (λ e wrong. absurd cc) (λ o done. let was = h.grey.scanned_is v done in (was.0, grows_one c.marked u v was.1));
+    scanned_is =
+        λ v.
+          at_set (λ b. b ≡ true → (c.place v ≡ Nowhere) × (set_at c.marked u true v ≡ true)) c.scanned u false v (λ e wrong. absurd cc)
+            (λ o done. let was = h.grey.scanned_is v done in (was.0, grows_one c.marked u v was.1));
   };
   black = λ m. record {
     black = λ v k t alive marked nowhere small e. black v k t m alive marked nowhere small e (same_or_not v u);
@@ -83,14 +86,22 @@ made_lawful z c l u n on lt dead h = record {
     own_before : (v k t : ℕ) → has (set_at c.cells u n v) k ≡ true → empties n c.cell k ≡ Some t → has (c.cells v) k ≡ true
     own_before v k t own e = at_set (λ (xs : List ℕ). has xs k ≡ true → has (c.cells v) k ≡ true) c.cells u n v (λ same new. absurd (let none = gone n c.cell k new in cc)) (λ o old. old) own
 
-    cells : (v k t : ℕ) → is_live c.phase (set_at c.doomed u false) (set_at c.marked u true) v ≡ true → has (set_at c.cells u n v) k ≡ true → empties n c.cell k ≡ Some t → (v ≡ u) ⊎ (v ≡ u → ⊥) → is_live c.phase (set_at c.doomed u false) (set_at c.marked u true) t ≡ true
+    cells : (v k t : ℕ) → is_live c.phase (set_at c.doomed u false) (set_at c.marked u true) v ≡ true → has (set_at c.cells u n v) k ≡ true
+        → empties n c.cell k ≡ Some t → (v ≡ u) ⊎ (v ≡ u → ⊥) → is_live c.phase (set_at c.doomed u false) (set_at c.marked u true) t ≡ true
     cells v k t live own e (inl same) = absurd (let new : has n k ≡ true = subst (λ (xs : List ℕ). has xs k ≡ true) (set_here c.cells u n v same) own in let none = gone n c.cell k new in cc)
     cells v k t live own e (inr o) = to t (h.cells v k t (from v o live) (own_before v k t own e) (still n c.cell k t e))
 
-    black : (v k t : ℕ) → c.phase ≡ Marking → set_at c.doomed u false v ≡ false → set_at c.marked u true v ≡ true → c.place v ≡ Nowhere → has (set_at c.cells u n v) k ≡ true → empties n c.cell k ≡ Some t → (v ≡ u) ⊎ (v ≡ u → ⊥) → set_at c.marked u true t ≡ true
-    black v k t m alive marked nowhere own e (inl same) = absurd (let new : has n k ≡ true = subst (λ (xs : List ℕ). has xs k ≡ true) (set_here c.cells u n v same) own in let none = gone n c.cell k new in cc)
+    black : (v k t : ℕ) → c.phase ≡ Marking → set_at c.doomed u false v ≡ false → set_at c.marked u true v ≡ true → c.place v ≡ Nowhere
+        → has (set_at c.cells u n v) k ≡ true → empties n c.cell k ≡ Some t → (v ≡ u) ⊎ (v ≡ u → ⊥) → set_at c.marked u true t ≡ true
+    black v k t m alive marked nowhere own e (inl same) =
+        absurd
+          (let new : has n k ≡ true = subst (λ (xs : List ℕ). has xs k ≡ true) (set_here c.cells u n v same) own in
+            let none = gone n c.cell k new in
+            cc)
     black v k t m alive marked nowhere own e (inr o) =
-        grows_one c.marked u t ((h.black m).black v k t (sym (set_there c.doomed u false v o) ∙ alive) (sym (set_there c.marked u true v o) ∙ marked) nowhere (own_before v k t own e) (still n c.cell k t e))
+        grows_one c.marked u t
+            ((h.black m).black v k t (sym (set_there c.doomed u false v o) ∙ alive) (sym (set_there c.marked u true v o) ∙ marked) nowhere
+              (own_before v k t own e) (still n c.cell k t e))
 
 -- all that making a unit does
 pub made : MakingIsLawful

@@ -1,5 +1,6 @@
 -- The cells of a unit by number.
-use Rattle.std.proofs.Common.{◌≡◌, ℕ, ◌+◌, ◌*◌, ◌-◌, ◌/◌, ◌<◌, ◌≤◌, ◌==◌, ◌||◌, nat_lt, refl, sym, subst, ap, ◌∙◌, zero, suc, arith, rules, is_some, not, Bool, cond, true, false, IsTrue, ◌↔◌, List, [], ◌∷◌, Option, Some, None}
+use Rattle.std.proofs.Common.{◌≡◌, ℕ, ◌+◌, ◌*◌, ◌-◌, ◌/◌, ◌<◌, ◌≤◌, ◌==◌, ◌||◌, nat_lt, refl, sym, subst, ap, ◌∙◌, zero, suc, arith, rules, is_some,
+    not, Bool, cond, true, false, IsTrue, ◌↔◌, List, [], ◌∷◌, Option, Some, None}
 use Rattle.std.proofs.lemmas.Bool.{eq-eqb}
 use Rattle.std.proofs.lemmas.Nat.{div-mul-add}
 use Rattle.std.proofs.Math.Nat.{mul-le-mul_right}
@@ -32,7 +33,8 @@ has_own z n lt = let at = cell_in_unit z.units z.cells n lt in has_numbers (n / 
 pub cell_of_unit : (z : Shape) (n unit cell : ℕ) → CellOf unit cell ≡ cell_of z n → (n < z.units * z.cells) × (unit ≡ n / z.cells) × (cell ≡ n)
 cell_of_unit z n unit cell e = go (nat_lt n (z.units * z.cells)) refl e
   where
-    go : (b : Bool) → nat_lt n (z.units * z.cells) ≡ b → CellOf unit cell ≡ cond b (CellOf (n / z.cells) n) (StrongOf (n - z.units * z.cells) 0) → (n < z.units * z.cells) × (unit ≡ n / z.cells) × (cell ≡ n)
+    go : (b : Bool) → nat_lt n (z.units * z.cells) ≡ b → CellOf unit cell ≡ cond b (CellOf (n / z.cells) n) (StrongOf (n - z.units * z.cells) 0)
+        → (n < z.units * z.cells) × (unit ≡ n / z.cells) × (cell ≡ n)
     go true t f = (search rules, cc, cc)
     go false t f = absurd cc
 
@@ -40,14 +42,18 @@ cell_of_unit z n unit cell e = go (nat_lt n (z.units * z.cells)) refl e
 pub cell_of_lane : (z : Shape) (n lane number : ℕ) → StrongOf lane number ≡ cell_of z n → (z.units * z.cells ≤ n) × (lane ≡ n - z.units * z.cells) × (number ≡ 0)
 cell_of_lane z n lane number e = go (nat_lt n (z.units * z.cells)) refl e
   where
-    go : (b : Bool) → nat_lt n (z.units * z.cells) ≡ b → StrongOf lane number ≡ cond b (CellOf (n / z.cells) n) (StrongOf (n - z.units * z.cells) 0) → (z.units * z.cells ≤ n) × (lane ≡ n - z.units * z.cells) × (number ≡ 0)
+    go : (b : Bool) → nat_lt n (z.units * z.cells) ≡ b → StrongOf lane number ≡ cond b (CellOf (n / z.cells) n) (StrongOf (n - z.units * z.cells) 0)
+        → (z.units * z.cells ≤ n) × (lane ≡ n - z.units * z.cells) × (number ≡ 0)
     go true t f = absurd cc
     go false t f = (search rules, cc, cc)
 
-pub may_use_cell : (z : Shape) (c : Core) (lane n unit cell : ℕ) (b : Bool) → c.cells ≡ own_cells z → CellOf unit cell ≡ cell_of z n → b ≡ c.holds lane unit → IsTrue b ↔ MayUse (sizes z) c lane (cell_of z n)
+pub may_use_cell : (z : Shape) (c : Core) (lane n unit cell : ℕ) (b : Bool) → c.cells ≡ own_cells z → CellOf unit cell ≡ cell_of z n
+    → b ≡ c.holds lane unit → IsTrue b ↔ MayUse (sizes z) c lane (cell_of z n)
 may_use_cell z c lane n unit cell b own at is =
     let parts = cell_of_unit z n unit cell at in
-    let has_it : has (c.cells unit) cell ≡ true = ap (λ (f : ℕ → List ℕ). has (f unit) cell) own ∙ (ap (λ (u : ℕ). has (own_cells z u) cell) parts.1 ∙ (ap (λ (k : ℕ). has (own_cells z (n / z.cells)) k) parts.2 ∙ has_own z n parts.0)) in
+    let has_it : has (c.cells unit) cell ≡ true =
+        ap (λ (f : ℕ → List ℕ). has (f unit) cell) own
+          ∙ (ap (λ (u : ℕ). has (own_cells z u) cell) parts.1 ∙ (ap (λ (k : ℕ). has (own_cells z (n / z.cells)) k) parts.2 ∙ has_own z n parts.0)) in
     subst (λ (x : Cell). IsTrue b ↔ MayUse (sizes z) c lane x) at
     (λ t. (sym is ∙ on b t, has_it), λ may. off b (is ∙ may.0))
   where
@@ -84,7 +90,8 @@ unit_of_cell units cells unit n in_units from to =
     (omega arith, ap (λ (x : ℕ). x / cells) (sym back) ∙ div-mul-add unit cells (n - unit * cells) small)
 
 -- a marker may load the cell at its cursor
-pub marker_loads_next : (z : Shape) (c : Core) (m : ℕ) (s : ScanAt) → scan_of z (Some s) ≡ c.scan m → IsInUnit z (Some s) → c.cells ≡ own_cells z → s.found ≡ None → MarkerMay (sizes z) c m (LoadCell (cell_of z s.next))
+pub marker_loads_next : (z : Shape) (c : Core) (m : ℕ) (s : ScanAt) → scan_of z (Some s) ≡ c.scan m → IsInUnit z (Some s) → c.cells ≡ own_cells z
+    → s.found ≡ None → MarkerMay (sizes z) c m (LoadCell (cell_of z s.next))
 marker_loads_next z c m s at inside own none =
     let spot = unit_of_cell z.units z.cells s.unit s.next inside.0 inside.1 inside.2 in
     let left = cells_from_next z s.unit s.next inside.2 in
@@ -98,7 +105,8 @@ marker_loads_next z c m s at inside own none =
     cell_at lt = search rules
 
 -- and no other
-pub marker_loads_only : (z : Shape) (c : Core) (m n : ℕ) (s : ScanAt) → scan_of z (Some s) ≡ c.scan m → IsInUnit z (Some s) → MarkerMay (sizes z) c m (LoadCell (cell_of z n)) → (s.next ≡ n) × (s.found ≡ None)
+pub marker_loads_only : (z : Shape) (c : Core) (m n : ℕ) (s : ScanAt) → scan_of z (Some s) ≡ c.scan m → IsInUnit z (Some s)
+    → MarkerMay (sizes z) c m (LoadCell (cell_of z n)) → (s.next ≡ n) × (s.found ≡ None)
 marker_loads_only z c m n s at inside may = go (nat_lt n (z.units * z.cells)) may
   where
     first_of : List ℕ → ℕ

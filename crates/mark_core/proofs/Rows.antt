@@ -14,10 +14,16 @@ pub record SameGrey (place next : ℕ → Place) : Type 0 where
   pub from : (u : ℕ) → next u ≡ Nowhere → place u ≡ Nowhere
 
 pub grey_regrouped : (d m s : ℕ → Bool) (place next : ℕ → Place) → SameGrey place next → AreGrey d m s place → AreGrey d m s next
-grey_regrouped d m s place next same h = record { marked_is = λ u e. same.to u (h.marked_is u e); doomed_is = λ u e. same.to u (h.doomed_is u e); scanned_is = λ u e. let was = h.scanned_is u e in (same.to u was.0, was.1) }
+grey_regrouped d m s place next same h =
+    record { marked_is = λ u e. same.to u (h.marked_is u e); doomed_is = λ u e. same.to u (h.doomed_is u e);
+        scanned_is = λ u e. let was = h.scanned_is u e in
+      (same.to u was.0, was.1) }
 
-pub black_regrouped : (d m : ℕ → Bool) (place next : ℕ → Place) (cells : ℕ → List ℕ) (cell : ℕ → Option ℕ) (scan : ℕ → Option Scan) → SameGrey place next → AreBlack d m place cells cell scan → AreBlack d m next cells cell scan
-black_regrouped d m place next cells cell scan same h = record { black = λ u k v alive marked nowhere lt e. h.black u k v alive marked (same.from u nowhere) lt e; passed = h.passed; at_cursor = h.at_cursor }
+pub black_regrouped : (d m : ℕ → Bool) (place next : ℕ → Place) (cells : ℕ → List ℕ) (cell : ℕ → Option ℕ) (scan : ℕ → Option Scan)
+    → SameGrey place next → AreBlack d m place cells cell scan → AreBlack d m next cells cell scan
+black_regrouped d m place next cells cell scan same h =
+    record { black = λ u k v alive marked nowhere lt e. h.black u k v alive marked (same.from u nowhere) lt e; passed = h.passed;
+      at_cursor = h.at_cursor }
 
 -- a grey unit goes to another place
 pub moved : (place : ℕ → Place) (u : ℕ) (p : Place) → (place u ≡ Nowhere → ⊥) → (p ≡ Nowhere → ⊥) → SameGrey place (set_at place u p)
@@ -33,7 +39,8 @@ row_range : (r k n : ℕ) → r ≤ n → InRow r ≡ InRow k → k ≤ n
 row_range r k n le e = let same = in_row_of r k e in omega arith
 
 -- a lane puts what it has in hand into a row
-pub lane_adds : (z : Sizes) (c : Core) (l r u : ℕ) → c.place u ≡ InHand l → r ≤ z.markers → Lawful z c → Lawful z (record c { place = set_at c.place u (InRow r); hand = set_at c.hand l None; lane_owes = set_at c.lane_owes l true })
+pub lane_adds : (z : Sizes) (c : Core) (l r u : ℕ) → c.place u ≡ InHand l → r ≤ z.markers → Lawful z c
+    → Lawful z (record c { place = set_at c.place u (InRow r); hand = set_at c.hand l None; lane_owes = set_at c.lane_owes l true })
 lane_adds z c l r u at le h =
     let same = moved c.place u (InRow r) (λ e. absurd cc) (λ e. absurd cc) in
     let has_u = h.standing.hands u l at in
@@ -43,20 +50,40 @@ lane_adds z c l r u at le h =
       open_in = h.open_in;
       lanes = record {
         hand_is = λ k off. at_set (λ x. x ≡ None) c.hand l None k (λ e. refl) (λ n. h.lanes.hand_is k off);
-        owes_is = λ k off. at_set (λ x. x ≡ false) c.lane_owes l true k (λ e. absurd (let empty = h.lanes.hand_is k off in let there : c.hand k ≡ c.hand l = ap c.hand e in cc)) (λ n. h.lanes.owes_is k off);
+        owes_is =
+            λ k off.
+              at_set (λ x. x ≡ false) c.lane_owes l true k
+                (λ e. absurd (let empty = h.lanes.hand_is k off in let there : c.hand k ≡ c.hand l = ap c.hand e in cc)) (λ n. h.lanes.owes_is k off);
       };
       markers = h.markers;
       held_in = h.held_in;
       stacks_in = λ m v off. at_set (λ x. x ≡ OnStack m → ⊥) c.place u (InRow r) v (λ e on. absurd cc) (λ n. h.stacks_in m v off);
       standing = record {
         rows = λ v k. at_set (λ x. x ≡ InRow k → k ≤ z.markers) c.place u (InRow r) v (λ e here. row_range r k z.markers le here) (λ n. h.standing.rows v k);
-        hands = λ v k. at_set (λ x. x ≡ InHand k → set_at c.hand l None k ≡ Some v) c.place u (InRow r) v (λ e wrong. absurd cc) (λ n there. at_set (λ x. x ≡ Some v) c.hand l None k (λ e. absurd (n (some_same v u (sym (h.standing.hands v k there) ∙ (ap c.hand e ∙ has_u))))) (λ other. h.standing.hands v k there));
+        hands =
+            λ v k.
+              at_set (λ x. x ≡ InHand k → set_at c.hand l None k ≡ Some v) c.place u (InRow r) v (λ e wrong. absurd cc)
+                (λ n there.
+                  at_set (λ x. x ≡ Some v) c.hand l None k
+                    (λ e. absurd (n (some_same v u (sym (h.standing.hands v k there) ∙ (ap c.hand e ∙ has_u)))))
+                    (λ other. h.standing.hands v k there));
         own = λ v. at_set (λ x. x ≡ InCollector → c.own_hand ≡ Some v) c.place u (InRow r) v (λ e wrong. absurd cc) (λ n. h.standing.own v);
         in_hand = λ k v. at_set (λ x. x ≡ Some v → set_at c.place u (InRow r) v ≡ InHand k) c.hand l None k (λ e wrong. absurd cc)
-            (λ n other. at_set (λ x. x ≡ InHand k) c.place u (InRow r) v (λ e. absurd (n (in_hand_of l k (sym at ∙ (ap c.place (sym e) ∙ h.standing.in_hand k v other))))) (λ o. h.standing.in_hand k v other));
-        in_own = λ v other. at_set (λ x. x ≡ InCollector) c.place u (InRow r) v (λ e. absurd (let was = h.standing.in_own v other in let there : c.place v ≡ c.place u = ap c.place e in cc)) (λ o. h.standing.in_own v other);
+            (λ n other.
+                at_set (λ x. x ≡ InHand k) c.place u (InRow r) v
+                  (λ e. absurd (n (in_hand_of l k (sym at ∙ (ap c.place (sym e) ∙ h.standing.in_hand k v other)))))
+                  (λ o. h.standing.in_hand k v other));
+        in_own =
+            λ v other.
+              at_set (λ x. x ≡ InCollector) c.place u (InRow r) v
+                (λ e. absurd (let was = h.standing.in_own v other in let there : c.place v ≡ c.place u = ap c.place e in cc))
+                (λ o. h.standing.in_own v other);
         scans = λ v k. at_set (λ x. x ≡ UnderScan k → (s : Scan) × (c.scan k ≡ Some s) × (s.unit ≡ v)) c.place u (InRow r) v (λ e wrong. absurd cc) (λ n. h.standing.scans v k);
-        under = λ k s e. at_set (λ x. x ≡ UnderScan k) c.place u (InRow r) s.unit (λ same_unit. absurd (let was = h.standing.under k s e in let there : c.place s.unit ≡ c.place u = ap c.place same_unit in cc)) (λ n. h.standing.under k s e);
+        under =
+            λ k s e.
+              at_set (λ x. x ≡ UnderScan k) c.place u (InRow r) s.unit
+                (λ same_unit. absurd (let was = h.standing.under k s e in let there : c.place s.unit ≡ c.place u = ap c.place same_unit in cc))
+                (λ n. h.standing.under k s e);
       };
       grey = grey_regrouped c.doomed c.marked c.scanned c.place (set_at c.place u (InRow r)) same h.grey;
       black = λ m. black_regrouped c.doomed c.marked c.place (set_at c.place u (InRow r)) c.cells c.cell c.scan same (h.black m);
@@ -72,7 +99,8 @@ lane_adds z c l r u at le h =
     }
 
 -- a marker puts a unit of its stack into a row
-pub marker_adds : (z : Sizes) (c : Core) (m r u : ℕ) → c.place u ≡ OnStack m → r ≤ z.markers → Lawful z c → Lawful z (record c { place = set_at c.place u (InRow r); marker_owes = set_at c.marker_owes m true })
+pub marker_adds : (z : Sizes) (c : Core) (m r u : ℕ) → c.place u ≡ OnStack m → r ≤ z.markers → Lawful z c
+    → Lawful z (record c { place = set_at c.place u (InRow r); marker_owes = set_at c.marker_owes m true })
 marker_adds z c m r u at le h =
     let same = moved c.place u (InRow r) (λ e. absurd cc) (λ e. absurd cc) in
     record {
@@ -90,10 +118,22 @@ marker_adds z c m r u at le h =
         rows = λ v k. at_set (λ x. x ≡ InRow k → k ≤ z.markers) c.place u (InRow r) v (λ e here. row_range r k z.markers le here) (λ n. h.standing.rows v k);
         hands = λ v k. at_set (λ x. x ≡ InHand k → c.hand k ≡ Some v) c.place u (InRow r) v (λ e wrong. absurd cc) (λ n. h.standing.hands v k);
         own = λ v. at_set (λ x. x ≡ InCollector → c.own_hand ≡ Some v) c.place u (InRow r) v (λ e wrong. absurd cc) (λ n. h.standing.own v);
-        in_hand = λ k v other. at_set (λ x. x ≡ InHand k) c.place u (InRow r) v (λ e. absurd (let was = h.standing.in_hand k v other in let there : c.place v ≡ c.place u = ap c.place e in cc)) (λ o. h.standing.in_hand k v other);
-        in_own = λ v other. at_set (λ x. x ≡ InCollector) c.place u (InRow r) v (λ e. absurd (let was = h.standing.in_own v other in let there : c.place v ≡ c.place u = ap c.place e in cc)) (λ o. h.standing.in_own v other);
+        in_hand =
+            λ k v other.
+              at_set (λ x. x ≡ InHand k) c.place u (InRow r) v
+                (λ e. absurd (let was = h.standing.in_hand k v other in let there : c.place v ≡ c.place u = ap c.place e in cc))
+                (λ o. h.standing.in_hand k v other);
+        in_own =
+            λ v other.
+              at_set (λ x. x ≡ InCollector) c.place u (InRow r) v
+                (λ e. absurd (let was = h.standing.in_own v other in let there : c.place v ≡ c.place u = ap c.place e in cc))
+                (λ o. h.standing.in_own v other);
         scans = λ v k. at_set (λ x. x ≡ UnderScan k → (s : Scan) × (c.scan k ≡ Some s) × (s.unit ≡ v)) c.place u (InRow r) v (λ e wrong. absurd cc) (λ n. h.standing.scans v k);
-        under = λ k s e. at_set (λ x. x ≡ UnderScan k) c.place u (InRow r) s.unit (λ same_unit. absurd (let was = h.standing.under k s e in let there : c.place s.unit ≡ c.place u = ap c.place same_unit in cc)) (λ n. h.standing.under k s e);
+        under =
+            λ k s e.
+              at_set (λ x. x ≡ UnderScan k) c.place u (InRow r) s.unit
+                (λ same_unit. absurd (let was = h.standing.under k s e in let there : c.place s.unit ≡ c.place u = ap c.place same_unit in cc))
+                (λ n. h.standing.under k s e);
       };
       grey = grey_regrouped c.doomed c.marked c.scanned c.place (set_at c.place u (InRow r)) same h.grey;
       black = λ mm. black_regrouped c.doomed c.marked c.place (set_at c.place u (InRow r)) c.cells c.cell c.scan same (h.black mm);
@@ -114,7 +154,8 @@ work_in_hand phase NoJob hand found u e h = absurd (let none = h.0 in cc)
 work_in_hand phase (Roots p) hand found u e h = h
 work_in_hand phase (Look r w) hand found u e h = absurd (let none = h.1 in cc)
 
-looked_in_hand : (phase : Phase) (job : Job) (hand : Option ℕ) (found : ℕ → Bool) (u : ℕ) (d : Bool) (lo mo : ℕ → Bool) (place : ℕ → Place) → hand ≡ Some u → AtWork phase job hand found → LookedAt job d lo mo place
+looked_in_hand : (phase : Phase) (job : Job) (hand : Option ℕ) (found : ℕ → Bool) (u : ℕ) (d : Bool) (lo mo : ℕ → Bool) (place : ℕ → Place)
+    → hand ≡ Some u → AtWork phase job hand found → LookedAt job d lo mo place
 looked_in_hand phase NoJob hand found u d lo mo place e h = tt
 looked_in_hand phase (Roots p) hand found u d lo mo place e h = tt
 looked_in_hand phase (Look r w) hand found u d lo mo place e h = absurd (let none = h.1 in cc)
@@ -135,10 +176,18 @@ collector_adds z c r u at le h =
         rows = λ v k. at_set (λ x. x ≡ InRow k → k ≤ z.markers) c.place u (InRow r) v (λ e here. row_range r k z.markers le here) (λ n. h.standing.rows v k);
         hands = λ v k. at_set (λ x. x ≡ InHand k → c.hand k ≡ Some v) c.place u (InRow r) v (λ e wrong. absurd cc) (λ n. h.standing.hands v k);
         own = λ v. at_set (λ x. x ≡ InCollector → None ≡ Some v) c.place u (InRow r) v (λ e wrong. absurd cc) (λ n there. absurd (n (some_same v u (sym (h.standing.own v there) ∙ has_u))));
-        in_hand = λ k v other. at_set (λ x. x ≡ InHand k) c.place u (InRow r) v (λ e. absurd (let was = h.standing.in_hand k v other in let there : c.place v ≡ c.place u = ap c.place e in cc)) (λ o. h.standing.in_hand k v other);
+        in_hand =
+            λ k v other.
+              at_set (λ x. x ≡ InHand k) c.place u (InRow r) v
+                (λ e. absurd (let was = h.standing.in_hand k v other in let there : c.place v ≡ c.place u = ap c.place e in cc))
+                (λ o. h.standing.in_hand k v other);
         in_own = λ v wrong. absurd cc;
         scans = λ v k. at_set (λ x. x ≡ UnderScan k → (s : Scan) × (c.scan k ≡ Some s) × (s.unit ≡ v)) c.place u (InRow r) v (λ e wrong. absurd cc) (λ n. h.standing.scans v k);
-        under = λ k s e. at_set (λ x. x ≡ UnderScan k) c.place u (InRow r) s.unit (λ same_unit. absurd (let was = h.standing.under k s e in let there : c.place s.unit ≡ c.place u = ap c.place same_unit in cc)) (λ n. h.standing.under k s e);
+        under =
+            λ k s e.
+              at_set (λ x. x ≡ UnderScan k) c.place u (InRow r) s.unit
+                (λ same_unit. absurd (let was = h.standing.under k s e in let there : c.place s.unit ≡ c.place u = ap c.place same_unit in cc))
+                (λ n. h.standing.under k s e);
       };
       grey = grey_regrouped c.doomed c.marked c.scanned c.place (set_at c.place u (InRow r)) same h.grey;
       black = λ m. black_regrouped c.doomed c.marked c.place (set_at c.place u (InRow r)) c.cells c.cell c.scan same (h.black m);
@@ -184,7 +233,9 @@ row_taken z c m r w opened h =
       roots = h.roots;
       quiet = λ out. let was = h.quiet out in record { places = λ u. same.to u (was.places u); clean = was.clean; lanes = was.lanes; markers = was.markers };
       work = h.work;
-      looked = looked_fewer c.job c.dirty c.lane_owes c.marker_owes c.place (takes m r w c.place) (λ v k. at_takes (λ x. x ≡ InRow k → c.place v ≡ InRow k) m r w c.place v (λ at wrong. absurd cc) (λ e. e)) h.looked;
+      looked =
+          looked_fewer c.job c.dirty c.lane_owes c.marker_owes c.place (takes m r w c.place)
+            (λ v k. at_takes (λ x. x ≡ InRow k → c.place v ≡ InRow k) m r w c.place v (λ at wrong. absurd cc) (λ e. e)) h.looked;
       cells = h.cells;
       root_set = h.root_set;
       held = h.held;

@@ -25,7 +25,8 @@ pub record InScans (place : ℕ → Place) (u : ℕ) : Type 0 where
   pub own : place u ≡ InCollector → ⊥
 
 -- A grey unit all of whose cells point to marked ones is scanned
-pub left : (z : Sizes) (c : Core) (u : ℕ) (scan : ℕ → Option Scan) → c.phase ≡ Marking → InScans c.place u → ((k v : ℕ) → has (c.cells u) k ≡ true → c.cell k ≡ Some v → c.marked v ≡ true) → Leaves c.scan scan u
+pub left : (z : Sizes) (c : Core) (u : ℕ) (scan : ℕ → Option Scan) → c.phase ≡ Marking → InScans c.place u
+    → ((k v : ℕ) → has (c.cells u) k ≡ true → c.cell k ≡ Some v → c.marked v ≡ true) → Leaves c.scan scan u
     → Lawful z c → Lawful z (record (leaves c u) { scan = scan })
 left z c u scan marking at settled other h = record {
   beyond = h.beyond;
@@ -41,7 +42,10 @@ left z c u scan marking at settled other h = record {
     own = λ v. at_set (λ x. x ≡ InCollector → c.own_hand ≡ Some v) c.place u Nowhere v (λ e wrong. absurd cc) (λ n. h.standing.own v);
     in_hand = λ k v hand. at_set (λ x. x ≡ InHand k) c.place u Nowhere v (λ e. absurd (at.hand k (ap c.place (sym e) ∙ h.standing.in_hand k v hand))) (λ n. h.standing.in_hand k v hand);
     in_own = λ v hand. at_set (λ x. x ≡ InCollector) c.place u Nowhere v (λ e. absurd (at.own (ap c.place (sym e) ∙ h.standing.in_own v hand))) (λ n. h.standing.in_own v hand);
-    scans = λ v k. at_set (λ x. x ≡ UnderScan k → (s : Scan) × (scan k ≡ Some s) × (s.unit ≡ v)) c.place u Nowhere v (λ e wrong. absurd cc) (λ n at. let was = h.standing.scans v k at in (was.0, other.stays k was.0 was.1 (λ e. n (sym was.2 ∙ e)), was.2));
+    scans =
+        λ v k.
+          at_set (λ x. x ≡ UnderScan k → (s : Scan) × (scan k ≡ Some s) × (s.unit ≡ v)) c.place u Nowhere v (λ e wrong. absurd cc)
+            (λ n at. let was = h.standing.scans v k at in (was.0, other.stays k was.0 was.1 (λ e. n (sym was.2 ∙ e)), was.2));
     under = λ k s e. let was = other.was k s e in at_set (λ x. x ≡ UnderScan k) c.place u Nowhere s.unit (λ same. absurd (was.1 same)) (λ n. h.standing.under k s was.0);
   };
   grey = record {
@@ -61,7 +65,9 @@ left z c u scan marking at settled other h = record {
   roots = h.roots;
   quiet = λ out. absurd (out marking);
   work = h.work;
-  looked = looked_fewer c.job c.dirty c.lane_owes c.marker_owes c.place (set_at c.place u Nowhere) (λ v r. at_set (λ x. x ≡ InRow r → c.place v ≡ InRow r) c.place u Nowhere v (λ e wrong. absurd cc) (λ n e. e)) h.looked;
+  looked =
+      looked_fewer c.job c.dirty c.lane_owes c.marker_owes c.place (set_at c.place u Nowhere)
+        (λ v r. at_set (λ x. x ≡ InRow r → c.place v ≡ InRow r) c.place u Nowhere v (λ e wrong. absurd cc) (λ n e. e)) h.looked;
   cells = h.cells;
   root_set = h.root_set;
   held = h.held;
@@ -84,7 +90,10 @@ rescanned z c m s t at same marking passed cursor live own_left h = record {
   open_in = h.open_in;
   lanes = h.lanes;
   markers = record {
-    scan_is = λ k off. at_set (λ x. x ≡ None) c.scan m (Some t) k (λ e. absurd (let none = h.markers.scan_is k off in let there : c.scan k ≡ c.scan m = ap c.scan e in cc)) (λ n. h.markers.scan_is k off);
+    scan_is =
+        λ k off.
+          at_set (λ x. x ≡ None) c.scan m (Some t) k
+            (λ e. absurd (let none = h.markers.scan_is k off in let there : c.scan k ≡ c.scan m = ap c.scan e in cc)) (λ n. h.markers.scan_is k off);
     owes_is = h.markers.owes_is;
   };
   held_in = h.held_in;
@@ -154,7 +163,8 @@ behind_has [] i e = e
 behind_has (n ∷ rest) i e = or_right (i == n) (has rest i) e
 
 -- The first of the cells that are left is settled: the scan goes on, or ends
-pub went_on : (z : Sizes) (c : Core) (m : ℕ) (s : Scan) → c.scan m ≡ Some s → c.phase ≡ Marking → ((i v : ℕ) (rest : List ℕ) → s.left ≡ i ∷ rest → c.cell i ≡ Some v → c.marked v ≡ true) → Lawful z c → Lawful z (goes_on c m s (behind s.left))
+pub went_on : (z : Sizes) (c : Core) (m : ℕ) (s : Scan) → c.scan m ≡ Some s → c.phase ≡ Marking
+    → ((i v : ℕ) (rest : List ℕ) → s.left ≡ i ∷ rest → c.cell i ≡ Some v → c.marked v ≡ true) → Lawful z c → Lawful z (goes_on c m s (behind s.left))
 went_on z c m s at marking settled h = go (behind s.left) before (λ i more. h.scans_own m s i at (behind_has s.left i more))
   where
     before : (i v : ℕ) → has (c.cells s.unit) i ≡ true → has (behind s.left) i ≡ false → c.cell i ≡ Some v → c.marked v ≡ true
@@ -175,7 +185,8 @@ went_on z c m s at marking settled h = go (behind s.left) before (λ i more. h.s
       none = λ k was. at_set (λ x. x ≡ None) c.scan m None k (λ e. refl) (λ n. was);
     }
 
-    go : (ns : List ℕ) → ((i v : ℕ) → has (c.cells s.unit) i ≡ true → has ns i ≡ false → c.cell i ≡ Some v → c.marked v ≡ true) → ((i : ℕ) → has ns i ≡ true → has (c.cells s.unit) i ≡ true) → Lawful z (goes_on c m s ns)
+    go : (ns : List ℕ) → ((i v : ℕ) → has (c.cells s.unit) i ≡ true → has ns i ≡ false → c.cell i ≡ Some v → c.marked v ≡ true)
+        → ((i : ℕ) → has ns i ≡ true → has (c.cells s.unit) i ≡ true) → Lawful z (goes_on c m s ns)
     go [] all own_left = left z c s.unit (set_at c.scan m None) marking (under_scan (h.standing.under m s at)) (λ k v own cell. all k v own refl cell) leaving h
     go (n ∷ rest) all own_left = rescanned z c m s (record { unit = s.unit; left = n ∷ rest; found = None }) at refl marking all (λ i more f v is wrong. absurd cc) (λ f wrong. absurd cc) own_left h
 
@@ -183,9 +194,13 @@ head_same : (a b : ℕ) (xs ys : List ℕ) → a ∷ xs ≡ b ∷ ys → b ≡ a
 head_same a b xs ys e = cc
 
 -- a marker loads the first cell that is left
-pub found_cell : (z : Sizes) (c : Core) (m u k : ℕ) (rest : List ℕ) (got : Option ℕ) → c.scan m ≡ Some (record { unit = u; left = k ∷ rest; found = None }) → has (c.cells u) k ≡ true → c.cell k ≡ got → c.phase ≡ Marking → Lawful z c → Lawful z (finds c m (c.scan m) got)
+pub found_cell : (z : Sizes) (c : Core) (m u k : ℕ) (rest : List ℕ) (got : Option ℕ)
+    → c.scan m ≡ Some (record { unit = u; left = k ∷ rest; found = None }) → has (c.cells u) k ≡ true → c.cell k ≡ got → c.phase ≡ Marking
+    → Lawful z c → Lawful z (finds c m (c.scan m) got)
 found_cell z c m u k rest None at own is marking h =
-    subst (λ (o : Option Scan). Lawful z (moves_on c m o)) (sym at) (went_on z c m (record { unit = u; left = k ∷ rest; found = None }) at marking (λ i v more same e. absurd (let there : c.cell i ≡ c.cell k = ap c.cell (head_same k i rest more same) in cc)) h)
+    subst (λ (o : Option Scan). Lawful z (moves_on c m o)) (sym at)
+        (went_on z c m (record { unit = u; left = k ∷ rest; found = None }) at marking
+          (λ i v more same e. absurd (let there : c.cell i ≡ c.cell k = ap c.cell (head_same k i rest more same) in cc)) h)
 found_cell z c m u k rest (Some t) at own is marking h =
     let at_u : c.place u ≡ UnderScan m = h.standing.under m (record { unit = u; left = k ∷ rest; found = None }) at in
     let alive : c.doomed u ≡ false = not_doomed at_u in
@@ -228,7 +243,10 @@ on_scan z c m u ns all none at marking opened h =
     record {
       beyond = h.beyond;
       scans_own = λ k q i. at_set (λ x. x ≡ Some q → has q.left i ≡ true → has (c.cells q.unit) i ≡ true) c.scan m (Some (record { unit = u; left = ns; found = None })) k
-          (λ e now. let is : record { unit = u; left = ns; found = None } ≡ q = some_same {A = Scan} (record { unit = u; left = ns; found = None }) q now in subst (λ (x : Scan). has x.left i ≡ true → has (c.cells x.unit) i ≡ true) is (λ on. subst (λ (xs : List ℕ). has xs i ≡ true) (sym all) on))
+          (λ e now. let is : record { unit = u; left = ns; found = None } ≡ q =
+                some_same {A = Scan} (record { unit = u; left = ns; found = None }) q now in
+              subst (λ (x : Scan). has x.left i ≡ true → has (c.cells x.unit) i ≡ true) is
+                (λ on. subst (λ (xs : List ℕ). has xs i ≡ true) (sym all) on))
           (λ n was. h.scans_own k q i was);
       open_in = h.open_in;
       lanes = h.lanes;
@@ -242,14 +260,30 @@ on_scan z c m u ns all none at marking opened h =
         rows = λ v r. at_set (λ x. x ≡ InRow r → r ≤ z.markers) c.place u (UnderScan m) v (λ e wrong. absurd cc) (λ n. h.standing.rows v r);
         hands = λ v k. at_set (λ x. x ≡ InHand k → c.hand k ≡ Some v) c.place u (UnderScan m) v (λ e wrong. absurd cc) (λ n. h.standing.hands v k);
         own = λ v. at_set (λ x. x ≡ InCollector → c.own_hand ≡ Some v) c.place u (UnderScan m) v (λ e wrong. absurd cc) (λ n. h.standing.own v);
-        in_hand = λ k v hand. at_set (λ x. x ≡ InHand k) c.place u (UnderScan m) v (λ e. absurd (let was = h.standing.in_hand k v hand in let there : c.place v ≡ c.place u = ap c.place e in cc)) (λ n. h.standing.in_hand k v hand);
-        in_own = λ v hand. at_set (λ x. x ≡ InCollector) c.place u (UnderScan m) v (λ e. absurd (let was = h.standing.in_own v hand in let there : c.place v ≡ c.place u = ap c.place e in cc)) (λ n. h.standing.in_own v hand);
+        in_hand =
+            λ k v hand.
+              at_set (λ x. x ≡ InHand k) c.place u (UnderScan m) v
+                (λ e. absurd (let was = h.standing.in_hand k v hand in let there : c.place v ≡ c.place u = ap c.place e in cc))
+                (λ n. h.standing.in_hand k v hand);
+        in_own =
+            λ v hand.
+              at_set (λ x. x ≡ InCollector) c.place u (UnderScan m) v
+                (λ e. absurd (let was = h.standing.in_own v hand in let there : c.place v ≡ c.place u = ap c.place e in cc))
+                (λ n. h.standing.in_own v hand);
         scans = λ v k. at_set (λ x. x ≡ UnderScan k → (s : Scan) × (set_at c.scan m (Some (record { unit = u; left = ns; found = None })) k ≡ Some s) × (s.unit ≡ v)) c.place u (UnderScan m) v
             (λ e here. (record { unit = u; left = ns; found = None }, set_here c.scan m (Some (record { unit = u; left = ns; found = None })) k (under_of m k here), sym e))
-            (λ n there. let was = h.standing.scans v k there in (was.0, set_there c.scan m (Some (record { unit = u; left = ns; found = None })) k (λ e. absurd (let some = was.1 in let same_scan : c.scan k ≡ c.scan m = ap c.scan e in cc)) ∙ was.1, was.2));
+            (λ n there. let was = h.standing.scans v k there in
+                (was.0,
+                  set_there c.scan m (Some (record { unit = u; left = ns; found = None })) k
+                      (λ e. absurd (let some = was.1 in let same_scan : c.scan k ≡ c.scan m = ap c.scan e in cc)) ∙ was.1, was.2));
         under = λ k q. at_set (λ x. x ≡ Some q → set_at c.place u (UnderScan m) q.unit ≡ UnderScan k) c.scan m (Some (record { unit = u; left = ns; found = None })) k
-            (λ e now. let is : record { unit = u; left = ns; found = None } ≡ q = some_same {A = Scan} (record { unit = u; left = ns; found = None }) q now in set_here c.place u (UnderScan m) q.unit (ap (λ (x : Scan). x.unit) (sym is)) ∙ ap UnderScan (sym e))
-            (λ n was. at_set (λ x. x ≡ UnderScan k) c.place u (UnderScan m) q.unit (λ e. absurd (let under = h.standing.under k q was in let there : c.place q.unit ≡ c.place u = ap c.place e in cc)) (λ o. h.standing.under k q was));
+            (λ e now. let is : record { unit = u; left = ns; found = None } ≡ q =
+                  some_same {A = Scan} (record { unit = u; left = ns; found = None }) q now in
+                set_here c.place u (UnderScan m) q.unit (ap (λ (x : Scan). x.unit) (sym is)) ∙ ap UnderScan (sym e))
+            (λ n was.
+                at_set (λ x. x ≡ UnderScan k) c.place u (UnderScan m) q.unit
+                  (λ e. absurd (let under = h.standing.under k q was in let there : c.place q.unit ≡ c.place u = ap c.place e in cc))
+                  (λ o. h.standing.under k q was));
       };
       grey = grey_regrouped c.doomed c.marked c.scanned c.place (set_at c.place u (UnderScan m)) same h.grey;
       black = λ mm. record {
@@ -268,7 +302,9 @@ on_scan z c m u ns all none at marking opened h =
       roots = h.roots;
       quiet = λ out. absurd (out marking);
       work = h.work;
-      looked = looked_fewer c.job c.dirty c.lane_owes c.marker_owes c.place (set_at c.place u (UnderScan m)) (λ v r. at_set (λ x. x ≡ InRow r → c.place v ≡ InRow r) c.place u (UnderScan m) v (λ e wrong. absurd cc) (λ n e. e)) h.looked;
+      looked =
+          looked_fewer c.job c.dirty c.lane_owes c.marker_owes c.place (set_at c.place u (UnderScan m))
+            (λ v r. at_set (λ x. x ≡ InRow r → c.place v ≡ InRow r) c.place u (UnderScan m) v (λ e wrong. absurd cc) (λ n e. e)) h.looked;
       cells = h.cells;
       root_set = h.root_set;
       held = h.held;
@@ -290,7 +326,8 @@ started z c m u none at marking h = go (c.cells u) refl
 
     go : (ns : List ℕ) → c.cells u ≡ ns → Lawful z (starts c m u ns)
     go [] e =
-        left z c u c.scan marking (record { grey_u = λ none. absurd cc; hand = λ l hand. absurd cc; own = λ hand. absurd cc }) (λ k v own cell. absurd (let nothing : has [] k ≡ true = subst (λ (xs : List ℕ). has xs k ≡ true) e own in cc))
+        left z c u c.scan marking (record { grey_u = λ none. absurd cc; hand = λ l hand. absurd cc; own = λ hand. absurd cc })
+            (λ k v own cell. absurd (let nothing : has [] k ≡ true = subst (λ (xs : List ℕ). has xs k ≡ true) e own in cc))
         (record {
           was = λ k s e. (e, λ same. absurd (let under = h.standing.under k s e in let there : c.place s.unit ≡ c.place u = ap c.place same in cc));
           stays = λ k s e n. e;

@@ -85,7 +85,8 @@ lane_closed z c l free h = record {
   idle = h.idle;
 }
 
-pub marker_closed : (z : Sizes) (c : Core) (m : ℕ) → c.scan m ≡ None → c.marker_owes m ≡ false → ((u : ℕ) → c.place u ≡ OnStack m → ⊥) → Lawful z c → Lawful z (record c { marker_open = set_at c.marker_open m false })
+pub marker_closed : (z : Sizes) (c : Core) (m : ℕ) → c.scan m ≡ None → c.marker_owes m ≡ false → ((u : ℕ) → c.place u ≡ OnStack m → ⊥) → Lawful z c
+    → Lawful z (record c { marker_open = set_at c.marker_open m false })
 marker_closed z c m none clear empty h = record {
   beyond = h.beyond;
   scans_own = h.scans_own;
@@ -131,7 +132,10 @@ gained z c l (Some u) on live h = record {
   looked = h.looked;
   cells = h.cells;
   root_set = h.root_set;
-  held = λ k v. at_set_in (λ b. b ≡ true → is_live c.phase c.doomed c.marked v ≡ true) c.holds l u true k v (λ e f t. subst (λ (x : ℕ). is_live c.phase c.doomed c.marked x ≡ true) (sym f) live) (h.held k v);
+  held =
+      λ k v.
+        at_set_in (λ b. b ≡ true → is_live c.phase c.doomed c.marked v ≡ true) c.holds l u true k v
+          (λ e f t. subst (λ (x : ℕ). is_live c.phase c.doomed c.marked x ≡ true) (sym f) live) (h.held k v);
   found = h.found;
   idle = h.idle;
 }

@@ -70,19 +70,27 @@ flag_written places stacks u p m b flags lt small of is on others h =
     len k (inr n) = ap (λ (xs : List Bool). length xs) (that k n)
 
     here : (k : ℕ) → k < length stacks → (k ≡ m) ⊎ (k ≡ m → ⊥) → get_or (get_or (set stacks m flags) k []) u false ≡ same_place p (OnStack k)
-    here k in_stacks (inl e) = ap (λ (xs : List Bool). get_or xs u false) (this k e ∙ is) ∙ (get_or-set_at (get_or stacks m []) u u b false refl long ∙ (sym on ∙ ap (λ (x : ℕ). same_place p (OnStack x)) (sym e)))
+    here k in_stacks (inl e) =
+        ap (λ (xs : List Bool). get_or xs u false) (this k e ∙ is)
+          ∙ (get_or-set_at (get_or stacks m []) u u b false refl long ∙ (sym on ∙ ap (λ (x : ℕ). same_place p (OnStack x)) (sym e)))
     here k in_stacks (inr n) = ap (λ (xs : List Bool). get_or xs u false) (that k n) ∙ others k in_stacks n
 
     there : (k v : ℕ) → (v ≡ u → ⊥) → (k ≡ m) ⊎ (k ≡ m → ⊥) → get_or (get_or (set stacks m flags) k []) v false ≡ get_or (get_or stacks k []) v false
-    there k v n (inl e) = ap (λ (xs : List Bool). get_or xs v false) (this k e ∙ is) ∙ (get_or-set_other (get_or stacks m []) u v b false n ∙ ap (λ (x : ℕ). get_or (get_or stacks x []) v false) (sym e))
+    there k v n (inl e) =
+        ap (λ (xs : List Bool). get_or xs v false) (this k e ∙ is)
+          ∙ (get_or-set_other (get_or stacks m []) u v b false n ∙ ap (λ (x : ℕ). get_or (get_or stacks x []) v false) (sym e))
     there k v n (inr o) = ap (λ (xs : List Bool). get_or xs v false) (that k o)
 
-pub stack_left : (places : List Place) (stacks : List (List Bool)) (u m : ℕ) (flags : List Bool) → u < length places → get_or places u Nowhere ≡ OnStack m → flags ≡ set (get_or stacks m []) u false → AreStacks places stacks → AreStacks (set places u Nowhere) (set stacks m flags)
+pub stack_left : (places : List Place) (stacks : List (List Bool)) (u m : ℕ) (flags : List Bool) → u < length places
+    → get_or places u Nowhere ≡ OnStack m → flags ≡ set (get_or stacks m []) u false → AreStacks places stacks
+    → AreStacks (set places u Nowhere) (set stacks m flags)
 stack_left places stacks u m flags lt at is h =
     flag_written places stacks u Nowhere m false flags lt (h.of_markers u m at) (λ k wrong. absurd cc) is refl
     (λ k small n. h.stack_is k u small ∙ (ap (λ (q : Place). same_place q (OnStack k)) at ∙ other_stack k m n)) h
 
-pub stack_entered : (places : List Place) (stacks : List (List Bool)) (u m : ℕ) (flags : List Bool) → u < length places → get_or places u Nowhere ≡ Nowhere → m < length stacks → flags ≡ set (get_or stacks m []) u true → AreStacks places stacks → AreStacks (set places u (OnStack m)) (set stacks m flags)
+pub stack_entered : (places : List Place) (stacks : List (List Bool)) (u m : ℕ) (flags : List Bool) → u < length places
+    → get_or places u Nowhere ≡ Nowhere → m < length stacks → flags ≡ set (get_or stacks m []) u true → AreStacks places stacks
+    → AreStacks (set places u (OnStack m)) (set stacks m flags)
 stack_entered places stacks u m flags lt at small is h =
     flag_written places stacks u (OnStack m) m true flags lt small (λ k e. subst (λ (x : ℕ). x < length stacks) (same_m k e) small) is (own_stack m)
     (λ k in_stacks n. h.stack_is k u in_stacks ∙ (ap (λ (q : Place). same_place q (OnStack k)) at ∙ sym (other_stack k m n))) h
@@ -91,7 +99,9 @@ stack_entered places stacks u m flags lt at small is h =
     same_m k e = cc
 
 -- a unit moves past the stacks
-pub no_stack_moved : (places : List Place) (stacks : List (List Bool)) (u : ℕ) (p : Place) → u < length places → ((m : ℕ) → get_or places u Nowhere ≡ OnStack m → ⊥) → ((m : ℕ) → p ≡ OnStack m → ⊥) → AreStacks places stacks → AreStacks (set places u p) stacks
+pub no_stack_moved : (places : List Place) (stacks : List (List Bool)) (u : ℕ) (p : Place) → u < length places
+    → ((m : ℕ) → get_or places u Nowhere ≡ OnStack m → ⊥) → ((m : ℕ) → p ≡ OnStack m → ⊥) → AreStacks places stacks
+    → AreStacks (set places u p) stacks
 no_stack_moved places stacks u p lt old new h =
     stacks_follow places stacks stacks u p lt (λ m e. absurd (new m e)) h refl (λ m small. refl)
     (λ m small. h.stack_is m u small ∙ (no_stack_at (get_or places u Nowhere) old m ∙ sym (no_stack_at p new m)))

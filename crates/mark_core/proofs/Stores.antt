@@ -32,7 +32,10 @@ stores z c k to may h = record {
   black = λ m. record {
     black = λ v i t alive marked nowhere own. at_set (λ x. x ≡ Some t → c.marked t ≡ true) c.cell k to i (λ e. marked_stored c to t m may) (λ n. (h.black m).black v i t alive marked nowhere own);
     passed = λ n s i v e own other. at_set (λ x. x ≡ Some v → c.marked v ≡ true) c.cell k to i (λ e2. marked_stored c to v m may) (λ o. (h.black m).passed n s i v e own other);
-    at_cursor = λ n s i rest t v e is f. at_set (λ x. x ≡ Some v → (c.marked v ≡ true) ⊎ (v ≡ t)) c.cell k to i (λ e2 g. inl (marked_stored c to v m may g)) (λ o. (h.black m).at_cursor n s i rest t v e is f);
+    at_cursor =
+        λ n s i rest t v e is f.
+          at_set (λ x. x ≡ Some v → (c.marked v ≡ true) ⊎ (v ≡ t)) c.cell k to i (λ e2 g. inl (marked_stored c to v m may g))
+            (λ o. (h.black m).at_cursor n s i rest t v e is f);
   };
   roots = h.roots;
   quiet = h.quiet;
@@ -62,7 +65,10 @@ roots_set z c p to in_range may h = record {
   work = h.work;
   looked = h.looked;
   cells = h.cells;
-  root_set = λ q v. at_set (λ x. x ≡ Some v → (q < root_places z) × (is_live c.phase c.doomed c.marked v ≡ true)) c.root p to q (λ e f. (subst (λ (x : ℕ). x < root_places z) (sym e) in_range, live_stored c to v may f)) (λ n. h.root_set q v);
+  root_set =
+      λ q v.
+        at_set (λ x. x ≡ Some v → (q < root_places z) × (is_live c.phase c.doomed c.marked v ≡ true)) c.root p to q
+          (λ e f. (subst (λ (x : ℕ). x < root_places z) (sym e) in_range, live_stored c to v may f)) (λ n. h.root_set q v);
   held = h.held;
   found = h.found;
   idle = h.idle;

@@ -1,8 +1,12 @@
 -- Each event leaves everybody something to do.
-use Rattle.std.proofs.Common.{◌≡◌, ℕ, ◌+◌, ◌<◌, ◌≤◌, ◌==◌, ◌&&◌, nat_lt, nat_le, refl, sym, ap, ◌∙◌, subst, inl, inr, arith, rules, Bool, cond, true, false, not, is_none, List, [], ◌∷◌, Option, Some, None}
+use Rattle.std.proofs.Common.{◌≡◌, ℕ, ◌+◌, ◌<◌, ◌≤◌, ◌==◌, ◌&&◌, nat_lt, nat_le, refl, sym, ap, ◌∙◌, subst, inl, inr, arith, rules, Bool, cond, true,
+    false, not, is_none, List, [], ◌∷◌, Option, Some, None}
 use Rattle.mark_core.specs.Changes.{set_at, is_empty}
-use Rattle.mark_core.specs.Machine.{Actor, Lane, Marker, Collector, CellOf, StrongOf, OnStack, Scan, Job, NoJob, Roots, Look, Sizes, root_places, words, Core, same_place, frames, InRow, InCollector, strong_place}
-use Rattle.mark_core.specs.Steps.{Step, BeginExchange, Shade, SwapCell, LoadCell, AddRow, ClearDirty, LoadRow, CommitExchange, LoadHead, DoomHead, Settle, RootBit, behind, marks, goes_on, moves_on, finds, starts, is_found, marker_loads, roots_done, finds_root, none_set, is_zero_word, next_word, looks, first_look, looked_all, begins_by, commits_by, Allowed, CollectorMay, after_lane, after_marker, after_collector, after_step}
+use Rattle.mark_core.specs.Machine.{Actor, Lane, Marker, Collector, CellOf, StrongOf, OnStack, Scan, Job, NoJob, Roots, Look, Sizes, root_places,
+    words, Core, same_place, frames, InRow, InCollector, strong_place}
+use Rattle.mark_core.specs.Steps.{Step, BeginExchange, Shade, SwapCell, LoadCell, AddRow, ClearDirty, LoadRow, CommitExchange, LoadHead, DoomHead,
+    Settle, RootBit, behind, marks, goes_on, moves_on, finds, starts, is_found, marker_loads, roots_done, finds_root, none_set, is_zero_word,
+    next_word, looks, first_look, looked_all, begins_by, commits_by, Allowed, CollectorMay, after_lane, after_marker, after_collector, after_step}
 use Rattle.mark_core.specs.GoesOn.{LooksInRange, GoesOn, NobodyIsStuck}
 use Rattle.mark_core.proofs.Tools.{at_set, some_same}
 
@@ -12,7 +16,9 @@ abbrev ScansSome : (ℕ → Option Scan) → Type 0
 ScansSome scan = (m : ℕ) (s : Scan) → scan m ≡ Some s → is_empty s.left ≡ false
 
 with_scan : (scan : ℕ → Option Scan) (m : ℕ) (t : Scan) → is_empty t.left ≡ false → ScansSome scan → ScansSome (set_at scan m (Some t))
-with_scan scan m t some h k q = at_set (λ x. x ≡ Some q → is_empty q.left ≡ false) scan m (Some t) k (λ e now. ap (λ (x : Scan). is_empty x.left) (sym (some_same {A = Scan} t q now)) ∙ some) (λ n was. h k q was)
+with_scan scan m t some h k q =
+    at_set (λ x. x ≡ Some q → is_empty q.left ≡ false) scan m (Some t) k
+      (λ e now. ap (λ (x : Scan). is_empty x.left) (sym (some_same {A = Scan} t q now)) ∙ some) (λ n was. h k q was)
 
 goes_some : (c : Core) (m : ℕ) (s : Scan) (ns : List ℕ) → ScansSome c.scan → ScansSome (goes_on c m s ns).scan
 goes_some c m s [] h = λ k q. at_set (λ x. x ≡ Some q → is_empty q.left ≡ false) c.scan m None k (λ e wrong. absurd cc) (λ n was. h k q was)
@@ -104,7 +110,9 @@ next_in z r w row word = go (nat_lt (w + 1) (words z)) refl
         pick true e = inl ((let lt : r < z.markers = search rules in omega arith), omega arith)
         pick false e = inr ((let ge : z.markers ≤ r = search rules in omega arith), refl)
 
-    go : (b : Bool) → nat_lt (w + 1) (words z) ≡ b → (LooksInRange z (cond b (Look r (w + 1)) (Look (r + 1) 0))) × ((hand : Option ℕ) (found : ℕ → Bool) → roots_done z (cond b (Look r (w + 1)) (Look (r + 1) 0)) hand found ≡ false)
+    go : (b : Bool) → nat_lt (w + 1) (words z) ≡ b
+        → (LooksInRange z (cond b (Look r (w + 1)) (Look (r + 1) 0)))
+          × ((hand : Option ℕ) (found : ℕ → Bool) → roots_done z (cond b (Look r (w + 1)) (Look (r + 1) 0)) hand found ≡ false)
     go true e = (inl (row, search rules), λ hand found. refl)
     go false e = (next_row, λ hand found. refl)
 
@@ -125,7 +133,8 @@ commits_go z c false h = record { scans = h.scans; roots = refl; looks = tt }
 pub collector_goes : (z : Sizes) (c : Core) (e : Step) → 0 < root_places z → CollectorMay z c e → GoesOn z c → GoesOn z (after_collector z c e)
 collector_goes z c BeginExchange some may h = begins_go z c (frames z c == 0) some h
 collector_goes z c (Shade u) some may h = rests_go z c (record (marks c u InCollector) { own_hand = cond (c.marked u) c.own_hand (Some u); own_found = set_at c.own_found u false }) refl h.looks h
-collector_goes z c (LoadCell (StrongOf of n)) some may h = rests_go z c (record c { job = Roots (strong_place z of n + 1); own_found = finds_root c.own_found (c.root (strong_place z of n)) }) refl tt h
+collector_goes z c (LoadCell (StrongOf of n)) some may h =
+    rests_go z c (record c { job = Roots (strong_place z of n + 1); own_found = finds_root c.own_found (c.root (strong_place z of n)) }) refl tt h
 collector_goes z c (LoadCell (CellOf u k)) some may h = absurd may
 collector_goes z c (AddRow r u) some may h = rests_go z c (record c { place = set_at c.place u (InRow r); own_hand = None }) refl h.looks h
 collector_goes z c ClearDirty some may h = first_goes z c h

@@ -33,7 +33,8 @@ count_one f i (suc n) = go (same_or_not n i) (count_one f i n)
     here true = omega arith
     here false = omega arith
 
-    there : (a b : Bool) → a ≡ b → count_below (set_at f i true) n ≤ suc (count_below f n) → cond a (suc (count_below (set_at f i true) n)) (count_below (set_at f i true) n) ≤ suc (cond b (suc (count_below f n)) (count_below f n))
+    there : (a b : Bool) → a ≡ b → count_below (set_at f i true) n ≤ suc (count_below f n)
+        → cond a (suc (count_below (set_at f i true) n)) (count_below (set_at f i true) n) ≤ suc (cond b (suc (count_below f n)) (count_below f n))
     there true true e le = omega arith
     there false false e le = le
     there true false e le = absurd cc

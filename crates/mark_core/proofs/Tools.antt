@@ -121,7 +121,8 @@ unfolding count_below
 count-above f i v zero le = refl
 count-above f i v (suc n) le = go (set_at f i v n) (f n) (set_there f i v n (λ e. absurd (omega arith))) (count-above f i v n (omega arith))
   where
-    go : (a b : Bool) → a ≡ b → count_below (set_at f i v) n ≡ count_below f n → cond a (suc (count_below (set_at f i v) n)) (count_below (set_at f i v) n) ≡ cond b (suc (count_below f n)) (count_below f n)
+    go : (a b : Bool) → a ≡ b → count_below (set_at f i v) n ≡ count_below f n
+        → cond a (suc (count_below (set_at f i v) n)) (count_below (set_at f i v) n) ≡ cond b (suc (count_below f n)) (count_below f n)
     go true true e h = ap (λ x. suc x) h
     go false false e h = h
     go true false e h = absurd cc
@@ -133,12 +134,14 @@ unfolding count_below
 count-more f i zero lt off = absurd (omega arith)
 count-more f i (suc n) lt off = pick (same_or_not n i) (count-more f i n)
   where
-    here : (a b : Bool) → a ≡ true → b ≡ false → count_below (set_at f i true) n ≡ count_below f n → cond a (suc (count_below (set_at f i true) n)) (count_below (set_at f i true) n) ≡ suc (cond b (suc (count_below f n)) (count_below f n))
+    here : (a b : Bool) → a ≡ true → b ≡ false → count_below (set_at f i true) n ≡ count_below f n
+        → cond a (suc (count_below (set_at f i true) n)) (count_below (set_at f i true) n) ≡ suc (cond b (suc (count_below f n)) (count_below f n))
     here true false e g h = ap (λ x. suc x) h
     here true true e g h = absurd cc
     here false b e g h = absurd cc
 
-    there : (a b : Bool) → a ≡ b → count_below (set_at f i true) n ≡ suc (count_below f n) → cond a (suc (count_below (set_at f i true) n)) (count_below (set_at f i true) n) ≡ suc (cond b (suc (count_below f n)) (count_below f n))
+    there : (a b : Bool) → a ≡ b → count_below (set_at f i true) n ≡ suc (count_below f n)
+        → cond a (suc (count_below (set_at f i true) n)) (count_below (set_at f i true) n) ≡ suc (cond b (suc (count_below f n)) (count_below f n))
     there true true e h = ap (λ x. suc x) h
     there false false e h = h
     there true false e h = absurd cc
@@ -154,12 +157,14 @@ unfolding count_below
 count-less f i zero lt on = absurd (omega arith)
 count-less f i (suc n) lt on = pick (same_or_not n i) (count-less f i n)
   where
-    here : (a b : Bool) → a ≡ false → b ≡ true → count_below (set_at f i false) n ≡ count_below f n → suc (cond a (suc (count_below (set_at f i false) n)) (count_below (set_at f i false) n)) ≡ cond b (suc (count_below f n)) (count_below f n)
+    here : (a b : Bool) → a ≡ false → b ≡ true → count_below (set_at f i false) n ≡ count_below f n
+        → suc (cond a (suc (count_below (set_at f i false) n)) (count_below (set_at f i false) n)) ≡ cond b (suc (count_below f n)) (count_below f n)
     here false true e g h = ap (λ x. suc x) h
     here false false e g h = absurd cc
     here true b e g h = absurd cc
 
-    there : (a b : Bool) → a ≡ b → suc (count_below (set_at f i false) n) ≡ count_below f n → suc (cond a (suc (count_below (set_at f i false) n)) (count_below (set_at f i false) n)) ≡ cond b (suc (count_below f n)) (count_below f n)
+    there : (a b : Bool) → a ≡ b → suc (count_below (set_at f i false) n) ≡ count_below f n
+        → suc (cond a (suc (count_below (set_at f i false) n)) (count_below (set_at f i false) n)) ≡ cond b (suc (count_below f n)) (count_below f n)
     there true true e h = ap (λ x. suc x) h
     there false false e h = h
     there true false e h = absurd cc

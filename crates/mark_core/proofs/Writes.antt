@@ -51,23 +51,30 @@ below_test a b lt = search rules
 from_test : (a b : ℕ) → b ≤ a → nat_lt a b ≡ false
 from_test a b le = search rules
 
-at_root : (units : ℕ) (rooted : List Bool) (strong : List (Option ℕ)) (p : ℕ) (b : Bool) → nat_lt p units ≡ b → root_of units rooted strong p ≡ cond b (cond (get_or rooted p false) (Some p) None) (get_or strong (p - units) None)
+at_root : (units : ℕ) (rooted : List Bool) (strong : List (Option ℕ)) (p : ℕ) (b : Bool) → nat_lt p units ≡ b
+    → root_of units rooted strong p ≡ cond b (cond (get_or rooted p false) (Some p) None) (get_or strong (p - units) None)
 at_root units rooted strong p b e = ap (λ (x : Bool). cond x (cond (get_or rooted p false) (Some p) None) (get_or strong (p - units) None)) e
 
 -- a strong pointer is written
-pub strong-set : (units : ℕ) (rooted : List Bool) (strong : List (Option ℕ)) (l : ℕ) (to : Option ℕ) → l < length strong → root_of units rooted (set strong l to) ≡ set_at (root_of units rooted strong) (units + l) to
+pub strong-set : (units : ℕ) (rooted : List Bool) (strong : List (Option ℕ)) (l : ℕ) (to : Option ℕ) → l < length strong
+    → root_of units rooted (set strong l to) ≡ set_at (root_of units rooted strong) (units + l) to
 strong-set units rooted strong l to lt = fun_ext (λ p. at p (nat_lt p units) refl (same_or_not p (units + l)))
   where
     at : (p : ℕ) (b : Bool) → nat_lt p units ≡ b → (p ≡ units + l) ⊎ (p ≡ units + l → ⊥) → root_of units rooted (set strong l to) p ≡ set_at (root_of units rooted strong) (units + l) to p
     at p true e (inl same) = absurd (let below : p < units = search rules in omega arith)
     at p true e (inr n) = at_root units rooted (set strong l to) p true e ∙ (sym (at_root units rooted strong p true e) ∙ sym (set_there (root_of units rooted strong) (units + l) to p n))
-    at p false e (inl same) = at_root units rooted (set strong l to) p false e ∙ (get_or-set_at strong l (p - units) to None (omega arith) lt ∙ sym (set_here (root_of units rooted strong) (units + l) to p same))
+    at p false e (inl same) =
+        at_root units rooted (set strong l to) p false e
+          ∙ (get_or-set_at strong l (p - units) to None (omega arith) lt ∙ sym (set_here (root_of units rooted strong) (units + l) to p same))
     at p false e (inr n) =
         let far : units ≤ p = search rules in
-        at_root units rooted (set strong l to) p false e ∙ (get_or-set_other strong l (p - units) to None (λ wrong. n (omega arith)) ∙ (sym (at_root units rooted strong p false e) ∙ sym (set_there (root_of units rooted strong) (units + l) to p n)))
+        at_root units rooted (set strong l to) p false e
+            ∙ (get_or-set_other strong l (p - units) to None (λ wrong. n (omega arith))
+              ∙ (sym (at_root units rooted strong p false e) ∙ sym (set_there (root_of units rooted strong) (units + l) to p n)))
 
 -- a root bit is written
-pub bit-set : (units : ℕ) (rooted : List Bool) (strong : List (Option ℕ)) (u : ℕ) (on : Bool) → u < units → u < length rooted → root_of units (set rooted u on) strong ≡ set_at (root_of units rooted strong) u (cond on (Some u) None)
+pub bit-set : (units : ℕ) (rooted : List Bool) (strong : List (Option ℕ)) (u : ℕ) (on : Bool) → u < units → u < length rooted
+    → root_of units (set rooted u on) strong ≡ set_at (root_of units rooted strong) u (cond on (Some u) None)
 bit-set units rooted strong u on small lt = fun_ext (λ p. at p (nat_lt p units) refl (same_or_not p u))
   where
     at : (p : ℕ) (b : Bool) → nat_lt p units ≡ b → (p ≡ u) ⊎ (p ≡ u → ⊥) → root_of units (set rooted u on) strong p ≡ set_at (root_of units rooted strong) u (cond on (Some u) None) p
@@ -80,10 +87,13 @@ bit-set units rooted strong u on small lt = fun_ext (λ p. at p (nat_lt p units)
         ∙ (ap (λ (b : Bool). cond b (Some p) None) (get_or-set_other rooted u p on false n)
         ∙ (sym (at_root units rooted strong p true e) ∙ sym (set_there (root_of units rooted strong) u (cond on (Some u) None) p n)))
     at p false e (inl same) = absurd (let far : units ≤ p = search rules in omega arith)
-    at p false e (inr n) = at_root units (set rooted u on) strong p false e ∙ (sym (at_root units rooted strong p false e) ∙ sym (set_there (root_of units rooted strong) u (cond on (Some u) None) p n))
+    at p false e (inr n) =
+        at_root units (set rooted u on) strong p false e
+          ∙ (sym (at_root units rooted strong p false e) ∙ sym (set_there (root_of units rooted strong) u (cond on (Some u) None) p n))
 
 -- a scan is written
-pub scan-set : (z : Shape) (scans : List (Option ScanAt)) (m : ℕ) (scan : Option ScanAt) → m < length scans → (λ (n : ℕ). scan_of z (get_or (set scans m scan) n None)) ≡ set_at (λ (n : ℕ). scan_of z (get_or scans n None)) m (scan_of z scan)
+pub scan-set : (z : Shape) (scans : List (Option ScanAt)) (m : ℕ) (scan : Option ScanAt) → m < length scans
+    → (λ (n : ℕ). scan_of z (get_or (set scans m scan) n None)) ≡ set_at (λ (n : ℕ). scan_of z (get_or scans n None)) m (scan_of z scan)
 scan-set z scans m scan lt = fun_ext (λ n. at n (same_or_not n m))
   where
     at : (n : ℕ) → (n ≡ m) ⊎ (n ≡ m → ⊥) → scan_of z (get_or (set scans m scan) n None) ≡ set_at (λ (k : ℕ). scan_of z (get_or scans k None)) m (scan_of z scan) n

@@ -138,7 +138,9 @@ part_again (part.Cell a b) = refl
 
 -- how many words each kind has
 abbrev sizes : Sizes → List ℕ
-sizes z = 1 ∷ 1 ∷ 1 ∷ 1 ∷ 1 ∷ z.lanes ∷ z.lanes ∷ z.lanes ∷ z.lanes ∷ z.lanes * z.strong ∷ row_words z ∷ (z.markers + 1) * row_words z ∷ item_count z ∷ item_count z ∷ item_count z ∷ item_count z ∷ item_count z ∷ item_count z ∷ item_count z * z.slots ∷ []
+sizes z =
+    1 ∷ 1 ∷ 1 ∷ 1 ∷ 1 ∷ z.lanes ∷ z.lanes ∷ z.lanes ∷ z.lanes ∷ z.lanes * z.strong ∷ row_words z ∷ (z.markers + 1) * row_words z ∷ item_count z
+      ∷ item_count z ∷ item_count z ∷ item_count z ∷ item_count z ∷ item_count z ∷ item_count z * z.slots ∷ []
 
 -- and how many stand in a row
 abbrev widths : Sizes → List ℕ

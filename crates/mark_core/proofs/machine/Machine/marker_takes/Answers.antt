@@ -17,7 +17,11 @@ loop-i-preserved c =
     let was = c.loop-i.invariant.place in
     let taken : Core → Core = λ x. record x { place = cond (same_place (x.place (first + c.loop-i.i)) (InRow c.args.row)) (set_at x.place (first + c.loop-i.i) (OnStack c.args.m)) x.place } in
     record {
-      place = c.take_bit.ensures.state ∙ (ap taken was ∙ ap (λ (f : ℕ → Place). record (state c.args.self.now) { place = f }) (takes_more c.args.m c.args.row first c.loop-i.i (state c.args.self.now).place));
+      place =
+          c.take_bit.ensures.state
+            ∙ (ap taken was
+              ∙ ap (λ (f : ℕ → Place). record (state c.args.self.now) { place = f })
+                (takes_more c.args.m c.args.row first c.loop-i.i (state c.args.self.now).place));
       shape = c.take_bit.ensures.shape ∙ c.loop-i.invariant.shape;
     }
 
