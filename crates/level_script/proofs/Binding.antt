@@ -32,7 +32,7 @@ use Rattle.level_script.specs.declared.said.FieldOf.{FieldOf}
 use Rattle.level_script.specs.declared.said.Place.{Place}
 use Rattle.level_script.specs.declared.said.Said.{Said}
 use Rattle.level_script.specs.declared.said.Said.TheVariants as said
-use Rattle.level_script.specs.declared.script.Cmd.{Cmd}
+use Rattle.level_script.specs.declared.script.LaneCmd.{LaneCmd}
 use Rattle.level_script.specs.declared.script.Spot.{Spot}
 use Rattle.level_script.proofs.Framing.{ok_same, err_ok, some_same, any_place, length_push, short_enough, both, and_both, on_ok}
 
@@ -231,16 +231,16 @@ closed false = refl
 
 module _ (lane : LaneNames) (name : List ℕ) where
   -- an answer tells what is bound
-  abbrev Tells : Bool → Result (LaneNames × Cmd) Cause → Type 0
-  Tells now r = (left : LaneNames) (command : Cmd) → r ≡ Ok (left, command) → is_bound left name ≡ now
+  abbrev Tells : Bool → Result (LaneNames × LaneCmd) Cause → Type 0
+  Tells now r = (left : LaneNames) (command : LaneCmd) → r ≡ Ok (left, command) → is_bound left name ≡ now
 
-  tells : (now : Bool) (left : LaneNames) (command : Cmd) → is_bound left name ≡ now → Tells now (Ok (left, command))
-  tells now left command is other more e = ap (λ (l : LaneNames). is_bound l name) (sym (ap (λ (r : LaneNames × Cmd). r.0) (ok_same e))) ∙ is
+  tells : (now : Bool) (left : LaneNames) (command : LaneCmd) → is_bound left name ≡ now → Tells now (Ok (left, command))
+  tells now left command is other more e = ap (λ (l : LaneNames). is_bound l name) (sym (ap (λ (r : LaneNames × LaneCmd). r.0) (ok_same e))) ∙ is
 
   fails : (now : Bool) (why : Cause) → Tells now (Err why)
   fails now why left command e = err_ok e
 
-  either : (now b : Bool) (r s : Result (LaneNames × Cmd) Cause) → Tells now r → Tells now s → Tells now (cond b r s)
+  either : (now b : Bool) (r s : Result (LaneNames × LaneCmd) Cause) → Tells now r → Tells now s → Tells now (cond b r s)
   either now true r s x y = x
   either now false r s x y = y
 
@@ -389,7 +389,7 @@ counted_leaves c next number class name what (Some count) e = field_leaves c nex
 eq_other : (i k : ℕ) → (i ≡ k → ⊥) → (i == k) ≡ false
 eq_other i k ne = false_from_ne_true _ (λ e. ne (eqb-true i k e))
 
-step_leaves : (index : ℕ) (name : List ℕ) (number at : ℕ) (what : Does) (c next : Context) (lane : LaneNames) (r : Result (LaneNames × Cmd) Cause) → slice_get c.lanes at ≡ Some lane → lane_step c.classes.classes c.fields lane what ≡ r
+step_leaves : (index : ℕ) (name : List ℕ) (number at : ℕ) (what : Does) (c next : Context) (lane : LaneNames) (r : Result (LaneNames × LaneCmd) Cause) → slice_get c.lanes at ≡ Some lane → lane_step c.classes.classes c.fields lane what ≡ r
     → with_lane number c at r ≡ Ok next → Leaves index name (Ok (said.Lane (Some at) what)) c next
 step_leaves index name number at what c next lane (Err why) is step e = err_ok e
 step_leaves index name number at what c next lane (Ok (now, command)) is step e = λ left there.

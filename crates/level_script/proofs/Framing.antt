@@ -36,13 +36,14 @@ use Rattle.level_script.specs.declared.said.Said.{Said}
 use Rattle.level_script.specs.declared.said.Said.TheVariants as said
 use Rattle.level_script.specs.declared.script.Cmd.{Cmd}
 use Rattle.level_script.specs.declared.script.Cmd.TheVariants as cmd
+use Rattle.level_script.specs.declared.script.LaneCmd.{LaneCmd}
+use Rattle.level_script.specs.declared.script.LaneCmd.TheVariants as lane_cmd
+use Rattle.level_script.specs.declared.script.GcCmd.TheVariants as gc_cmd
 use Rattle.level_script.specs.declared.script.Line.{Line}
 use Rattle.level_script.specs.declared.script.Spot.{Spot}
 use Rattle.level_script.specs.declared.said.Place.{Place}
 use Rattle.level_script.specs.declared.said.FieldOf.{FieldOf}
 use Rattle.level_script.specs.declared.script.Script.{Script}
-use Rattle.level_script.specs.declared.script.Who.{Who}
-use Rattle.level_script.specs.declared.script.Who.TheVariants as who
 
 -- ---- answers
 
@@ -134,26 +135,26 @@ pub and_both : (a b : Bool) → a ≡ true → b ≡ true → (a && b) ≡ true
 and_both a b e f = (λ t. e t && f t)
 
 -- what a step of a lane does to its frame and its variables, and that its command fits
-record StepFacts (classes : List Class) (fields : List (List ℕ)) (lane left : LaneNames) (command : Cmd) : Type 0 where
+record StepFacts (classes : List Class) (fields : List (List ℕ)) (lane left : LaneNames) (command : LaneCmd) : Type 0 where
   opened : left.opened ≡ opened_after command lane.opened
   grows : count_of lane ≤ count_of left
   fit : (vars count names : ℕ) → count_of left ≤ vars → length classes ≤ count → length fields ≤ names → fits_lane vars count names lane.opened command ≡ true
 
-abbrev FactsOf : List Class → List (List ℕ) → LaneNames → LaneNames × Cmd → Type 0
+abbrev FactsOf : List Class → List (List ℕ) → LaneNames → LaneNames × LaneCmd → Type 0
 FactsOf classes fields lane (left, command) = StepFacts classes fields lane left command
 
 -- the frame opens
-open_facts : (classes : List Class) (fields : List (List ℕ)) (lane : LaneNames) (b : Bool) → lane.opened ≡ b → (left : LaneNames × Cmd) → cond b (Err cause.Frame) (Ok (record lane { opened = true }, cmd.Open)) ≡ Ok left → FactsOf classes fields lane left
+open_facts : (classes : List Class) (fields : List (List ℕ)) (lane : LaneNames) (b : Bool) → lane.opened ≡ b → (left : LaneNames × LaneCmd) → cond b (Err cause.Frame) (Ok (record lane { opened = true }, lane_cmd.Open)) ≡ Ok left → FactsOf classes fields lane left
 open_facts classes fields lane true is left e = err_ok e
 open_facts classes fields lane false is left e = subst (FactsOf classes fields lane) (ok_same e) (record { opened = refl; grows = omega arith; fit = λ vars count names few some named. ap not is })
 
 -- the frame closes
-close_facts : (classes : List Class) (fields : List (List ℕ)) (lane : LaneNames) (b : Bool) → lane.opened ≡ b → (left : LaneNames × Cmd) → cond b (Ok (record { opened = false; names = lane.names; bound = [] }, cmd.Close)) (Err cause.Frame) ≡ Ok left → FactsOf classes fields lane left
+close_facts : (classes : List Class) (fields : List (List ℕ)) (lane : LaneNames) (b : Bool) → lane.opened ≡ b → (left : LaneNames × LaneCmd) → cond b (Ok (record { opened = false; names = lane.names; bound = [] }, lane_cmd.Close)) (Err cause.Frame) ≡ Ok left → FactsOf classes fields lane left
 close_facts classes fields lane false is left e = err_ok e
 close_facts classes fields lane true is left e = subst (FactsOf classes fields lane) (ok_same e) (record { opened = refl; grows = omega arith; fit = λ vars count names few some named. is })
 
 -- a variable is bound to a class that is known
-bound_facts : (classes : List Class) (fields : List (List ℕ)) (lane : LaneNames) (var class : List ℕ) (o : Option ClassId) → lane.opened ≡ true → find_class classes class ≡ o → (left : LaneNames × Cmd) → bound_new lane var o ≡ Ok left → FactsOf classes fields lane left
+bound_facts : (classes : List Class) (fields : List (List ℕ)) (lane : LaneNames) (var class : List ℕ) (o : Option ClassId) → lane.opened ≡ true → find_class classes class ≡ o → (left : LaneNames × LaneCmd) → bound_new lane var o ≡ Ok left → FactsOf classes fields lane left
 bound_facts classes fields lane var class None is found left e = err_ok e
 bound_facts classes fields lane var class (Some id) is found left e =
     subst (FactsOf classes fields lane) (ok_same e) (record {
@@ -164,7 +165,7 @@ bound_facts classes fields lane var class (Some id) is found left e =
     })
 
 -- a variable is bound
-new_facts : (classes : List Class) (fields : List (List ℕ)) (lane : LaneNames) (var class : List ℕ) (b : Bool) → lane.opened ≡ b → (left : LaneNames × Cmd) → cond b (bound_new lane var (find_class classes class)) (Err cause.Frame) ≡ Ok left → FactsOf classes fields lane left
+new_facts : (classes : List Class) (fields : List (List ℕ)) (lane : LaneNames) (var class : List ℕ) (b : Bool) → lane.opened ≡ b → (left : LaneNames × LaneCmd) → cond b (bound_new lane var (find_class classes class)) (Err cause.Frame) ≡ Ok left → FactsOf classes fields lane left
 new_facts classes fields lane var class false is left e = err_ok e
 new_facts classes fields lane var class true is left e = bound_facts classes fields lane var class (find_class classes class) is refl left e
 
@@ -182,24 +183,24 @@ bound_below : (lane : LaneNames) (var : List ℕ) (n : ℕ) → bound_var lane v
 bound_below lane var n e = found_below lane.names var n (if_bound_some lane.bound (number_of_name lane.names var) n e)
 
 -- the object of a variable that is bound becomes a root, or is one no longer
-rooted_facts : (classes : List Class) (fields : List (List ℕ)) (lane : LaneNames) (var : List ℕ) (on : Bool) (o : Option ℕ) → lane.opened ≡ true → bound_var lane var ≡ o → (left : LaneNames × Cmd) → root_of lane on o ≡ Ok left → FactsOf classes fields lane left
+rooted_facts : (classes : List Class) (fields : List (List ℕ)) (lane : LaneNames) (var : List ℕ) (on : Bool) (o : Option ℕ) → lane.opened ≡ true → bound_var lane var ≡ o → (left : LaneNames × LaneCmd) → root_of lane on o ≡ Ok left → FactsOf classes fields lane left
 rooted_facts classes fields lane var on None is found left e = err_ok e
 rooted_facts classes fields lane var on (Some n) is found left e =
     let below = bound_below lane var n found in
     subst (FactsOf classes fields lane) (ok_same e) (record { opened = refl; grows = omega arith; fit = λ vars count names few some named. (λ t. is t && below_true n (length lane.names) vars below few t) })
 
-root_facts : (classes : List Class) (fields : List (List ℕ)) (lane : LaneNames) (var : List ℕ) (on b : Bool) → lane.opened ≡ b → (left : LaneNames × Cmd) → cond b (root_of lane on (bound_var lane var)) (Err cause.Frame) ≡ Ok left → FactsOf classes fields lane left
+root_facts : (classes : List Class) (fields : List (List ℕ)) (lane : LaneNames) (var : List ℕ) (on b : Bool) → lane.opened ≡ b → (left : LaneNames × LaneCmd) → cond b (root_of lane on (bound_var lane var)) (Err cause.Frame) ≡ Ok left → FactsOf classes fields lane left
 root_facts classes fields lane var on false is left e = err_ok e
 root_facts classes fields lane var on true is left e = rooted_facts classes fields lane var on (bound_var lane var) is refl left e
 
 -- the object of a variable that is bound is told
-printed_facts : (classes : List Class) (fields : List (List ℕ)) (lane : LaneNames) (var : List ℕ) (o : Option ℕ) → lane.opened ≡ true → bound_var lane var ≡ o → (left : LaneNames × Cmd) → print_of lane o ≡ Ok left → FactsOf classes fields lane left
+printed_facts : (classes : List Class) (fields : List (List ℕ)) (lane : LaneNames) (var : List ℕ) (o : Option ℕ) → lane.opened ≡ true → bound_var lane var ≡ o → (left : LaneNames × LaneCmd) → print_of lane o ≡ Ok left → FactsOf classes fields lane left
 printed_facts classes fields lane var None is found left e = err_ok e
 printed_facts classes fields lane var (Some n) is found left e =
     let below = bound_below lane var n found in
     subst (FactsOf classes fields lane) (ok_same e) (record { opened = refl; grows = omega arith; fit = λ vars count names few some named. (λ t. is t && below_true n (length lane.names) vars below few t) })
 
-print_facts : (classes : List Class) (fields : List (List ℕ)) (lane : LaneNames) (var : List ℕ) (b : Bool) → lane.opened ≡ b → (left : LaneNames × Cmd) → cond b (print_of lane (bound_var lane var)) (Err cause.Frame) ≡ Ok left → FactsOf classes fields lane left
+print_facts : (classes : List Class) (fields : List (List ℕ)) (lane : LaneNames) (var : List ℕ) (b : Bool) → lane.opened ≡ b → (left : LaneNames × LaneCmd) → cond b (print_of lane (bound_var lane var)) (Err cause.Frame) ≡ Ok left → FactsOf classes fields lane left
 print_facts classes fields lane var false is left e = err_ok e
 print_facts classes fields lane var true is left e = printed_facts classes fields lane var (bound_var lane var) is refl left e
 
@@ -233,11 +234,11 @@ target_fits lane (Some name) target vars e few = go (bound_var lane name) refl e
 
 module _ (classes : List Class) (fields : List (List ℕ)) (lane : LaneNames) where
   -- what an answer to a line says
-  abbrev Fits : Result (LaneNames × Cmd) Cause → Type 0
-  Fits r = (left : LaneNames × Cmd) → r ≡ Ok left → FactsOf classes fields lane left
+  abbrev Fits : Result (LaneNames × LaneCmd) Cause → Type 0
+  Fits r = (left : LaneNames × LaneCmd) → r ≡ Ok left → FactsOf classes fields lane left
 
   -- a line that needs an open frame
-  in_frame : (b : Bool) (r : Result (LaneNames × Cmd) Cause) → lane.opened ≡ b → (lane.opened ≡ true → Fits r) → Fits (cond b r (Err cause.Frame))
+  in_frame : (b : Bool) (r : Result (LaneNames × LaneCmd) Cause) → lane.opened ≡ b → (lane.opened ≡ true → Fits r) → Fits (cond b r (Err cause.Frame))
   in_frame false r is fits left e = err_ok e
   in_frame true r is fits left e = fits is left e
 
@@ -301,7 +302,7 @@ module _ (classes : List Class) (fields : List (List ℕ)) (lane : LaneNames) wh
       in_frame lane.opened _ refl (λ is. take_at_facts (spot_found lane fields place element) is (found_facts lane fields place element)) left e
 
 -- each step
-step_facts : (classes : List Class) (fields : List (List ℕ)) (lane : LaneNames) (what : Does) (left : LaneNames × Cmd) → lane_step classes fields lane what ≡ Ok left → FactsOf classes fields lane left
+step_facts : (classes : List Class) (fields : List (List ℕ)) (lane : LaneNames) (what : Does) (left : LaneNames × LaneCmd) → lane_step classes fields lane what ≡ Ok left → FactsOf classes fields lane left
 step_facts classes fields lane does.Open left e = open_facts classes fields lane lane.opened refl left e
 step_facts classes fields lane does.Close left e = close_facts classes fields lane lane.opened refl left e
 step_facts classes fields lane (does.New var class) left e = new_facts classes fields lane var class lane.opened refl left e
@@ -317,13 +318,13 @@ step_facts classes fields lane (does.Print var) left e = print_facts classes fie
 -- the frames after lines
 frames_through : List Bool → List Line → List Bool
 frames_through frames [] = frames
-frames_through frames (line ∷ lines) = frames_through (frames_after frames line.who line.cmd) lines
+frames_through frames (line ∷ lines) = frames_through (frames_after frames line.cmd) lines
 
 -- the frames after one more line
-through_more : (frames : List Bool) (lines : List Line) (line : Line) → frames_through frames (lines ++ line ∷ []) ≡ frames_after (frames_through frames lines) line.who line.cmd
+through_more : (frames : List Bool) (lines : List Line) (line : Line) → frames_through frames (lines ++ line ∷ []) ≡ frames_after (frames_through frames lines) line.cmd
 unfolding frames_through
 through_more frames [] line = refl
-through_more frames (l ∷ lines) line = through_more (frames_after frames l.who l.cmd) lines line
+through_more frames (l ∷ lines) line = through_more (frames_after frames l.cmd) lines line
 
 -- two tests that hold together
 pub both : (a b : Bool) → (a && b) ≡ true → (a ≡ true) × (b ≡ true)
@@ -331,12 +332,12 @@ both true b h = (refl, h)
 both false b h = absurd (cc)
 
 -- one more line that fits
-framed_more : (vars : List ℕ) (classes fields : ℕ) (frames : List Bool) (lines : List Line) (line : Line) → are_framed vars classes fields frames lines ≡ true → fits vars classes fields (frames_through frames lines) line.who line.cmd ≡ true → are_framed vars classes fields frames (lines ++ line ∷ []) ≡ true
+framed_more : (vars : List ℕ) (classes fields : ℕ) (frames : List Bool) (lines : List Line) (line : Line) → are_framed vars classes fields frames lines ≡ true → fits vars classes fields (frames_through frames lines) line.cmd ≡ true → are_framed vars classes fields frames (lines ++ line ∷ []) ≡ true
 unfolding are_framed frames_through
 framed_more vars classes fields frames [] line was now = ap (λ b. b && true) now
 framed_more vars classes fields frames (l ∷ lines) line was now =
-    let parts = both (fits vars classes fields frames l.who l.cmd) (are_framed vars classes fields (frames_after frames l.who l.cmd) lines) was in
-    (λ t. parts.0 t && framed_more vars classes fields (frames_after frames l.who l.cmd) lines line parts.1 now t)
+    let parts = both (fits vars classes fields frames l.cmd) (are_framed vars classes fields (frames_after frames l.cmd) lines) was in
+    (λ t. parts.0 t && framed_more vars classes fields (frames_after frames l.cmd) lines line parts.1 now t)
 
 -- the lanes have no more variables than these
 abbrev Within : List LaneNames → List ℕ → Type 0
@@ -357,20 +358,20 @@ abbrev changed : Context → List LaneNames → Context
 changed c lanes = record { classes = c.classes; in_header = c.in_header; lanes = lanes; fields = c.fields; lines = c.lines }
 
 -- a line that fits keeps it
-good_push : (limits : Limits) (c : Context) (lanes : List LaneNames) (number : ℕ) (by : Who) (command : Cmd) → Good limits c → length lanes ≡ length c.lanes →
-    frames_after (map (λ lane. lane.opened) c.lanes) by command ≡ map (λ lane. lane.opened) lanes →
+good_push : (limits : Limits) (c : Context) (lanes : List LaneNames) (number : ℕ) (command : Cmd) → Good limits c → length lanes ≡ length c.lanes →
+    frames_after (map (λ lane. lane.opened) c.lanes) command ≡ map (λ lane. lane.opened) lanes →
     ((l : ℕ) → count_of (get_or c.lanes l closed_lane) ≤ count_of (get_or lanes l closed_lane)) →
-    ((vars : List ℕ) (classes names : ℕ) → Within lanes vars → length c.classes.classes ≤ classes → length c.fields ≤ names → fits vars classes names (map (λ lane. lane.opened) c.lanes) by command ≡ true) →
-    Good limits (with_line (changed c lanes) number by command)
-good_push limits c lanes number by command g same frames grow fit =
-    let line : Line = record { number = number; who = by; cmd = command } in
+    ((vars : List ℕ) (classes names : ℕ) → Within lanes vars → length c.classes.classes ≤ classes → length c.fields ≤ names → fits vars classes names (map (λ lane. lane.opened) c.lanes) command ≡ true) →
+    Good limits (with_line (changed c lanes) number command)
+good_push limits c lanes number command g same frames grow fit =
+    let line : Line = record { number = number; cmd = command } in
     record {
       lanes = same ∙ g.lanes;
-      now = through_more (replicate limits.lanes false) c.lines line ∙ ap (λ f. frames_after f by command) g.now ∙ frames;
+      now = through_more (replicate limits.lanes false) c.lines line ∙ ap (λ f. frames_after f command) g.now ∙ frames;
       framed = λ vars classes names within few named.
           framed_more vars classes names (replicate limits.lanes false) c.lines line
           (g.framed vars classes names (λ l. omega (arith, grow l, within l)) few named)
-          (ap (λ f. fits vars classes names f by command) g.now ∙ fit vars classes names within few named);
+          (ap (λ f. fits vars classes names f command) g.now ∙ fit vars classes names within few named);
       slots = g.slots;
       some = g.some;
       at_once = g.at_once;
@@ -392,12 +393,12 @@ set_grows (y ∷ ys) (suc i) x h zero = omega arith
 set_grows (y ∷ ys) (suc i) x h (suc l) = set_grows ys i x h l
 
 -- a line of a lane fits
-good_lane : (limits : Limits) (c : Context) (number i : ℕ) (lane left : LaneNames) (command : Cmd) → Good limits c → slice_get c.lanes i ≡ Some lane → StepFacts c.classes.classes c.fields lane left command →
-    Good limits (with_line (changed c (slice_set c.lanes i left)) number (who.Lane i) command)
+good_lane : (limits : Limits) (c : Context) (number i : ℕ) (lane left : LaneNames) (command : LaneCmd) → Good limits c → slice_get c.lanes i ≡ Some lane → StepFacts c.classes.classes c.fields lane left command →
+    Good limits (with_line (changed c (slice_set c.lanes i left)) number (cmd.Lane i command))
 good_lane limits c number i lane left command g is facts =
     let there = got c.lanes i lane closed_lane is in
     let opened_here : slice_index_or (map (λ lane. lane.opened) c.lanes) i false ≡ lane.opened = get_or-map (λ (lane : LaneNames). lane.opened) c.lanes i closed_lane ∙ ap (λ (lane : LaneNames). lane.opened) there.1 in
-    good_push limits c (slice_set c.lanes i left) number (who.Lane i) command g
+    good_push limits c (slice_set c.lanes i left) number (cmd.Lane i command) g
     (length-set c.lanes i left)
     (ap (λ o. slice_set (map (λ lane. lane.opened) c.lanes) i (opened_after command o)) opened_here
     ∙ ap (slice_set (map (λ lane. lane.opened) c.lanes) i) (sym facts.opened)
@@ -409,7 +410,7 @@ good_lane limits c number i lane left command g is facts =
     (λ t. inside t && fits_lane (slice_index vars i) classes names (opened_here t) command) ∙ facts.fit (get_or vars i 0) classes names most few named)
 
 -- a step of a lane keeps it
-good_with_lane : (limits : Limits) (c next : Context) (number i : ℕ) (lane : LaneNames) (what : Does) (r : Result (LaneNames × Cmd) Cause) → Good limits c → slice_get c.lanes i ≡ Some lane → lane_step c.classes.classes c.fields lane what ≡ r → with_lane number c i r ≡ Ok next → Good limits next
+good_with_lane : (limits : Limits) (c next : Context) (number i : ℕ) (lane : LaneNames) (what : Does) (r : Result (LaneNames × LaneCmd) Cause) → Good limits c → slice_get c.lanes i ≡ Some lane → lane_step c.classes.classes c.fields lane what ≡ r → with_lane number c i r ≡ Ok next → Good limits next
 good_with_lane limits c next number i lane what (Err why) g is step e = err_ok e
 good_with_lane limits c next number i lane what (Ok (left, command)) g is step e = subst (Good limits) (ok_same e) (good_lane limits c number i lane left command g is (step_facts c.classes.classes c.fields lane what (left, command) step))
 
@@ -530,7 +531,7 @@ good_act : (limits : Limits) (c next : Context) (number : ℕ) (what : Said) →
 good_act limits c next number said.Nothing g says e = subst (Good limits) (ok_same e) g
 good_act limits c next number (said.Class name parent) g says e = good_classes limits c next (added c.classes number name parent) g (λ more is. added_grows c.classes more number name (admitted c.classes.classes name parent) says is) e
 good_act limits c next number (said.Field class name what count) g says e = good_counted limits c next number class name what (elements_in count) g e
-good_act limits c next number said.Full g says e = subst (Good limits) (ok_same e) (good_push limits c c.lanes number who.Gc cmd.GcFull g refl refl (λ l. omega arith) (λ vars classes names within few named. refl))
+good_act limits c next number said.Full g says e = subst (Good limits) (ok_same e) (good_push limits c c.lanes number (cmd.Gc gc_cmd.Full) g refl refl (λ l. omega arith) (λ vars classes names within few named. refl))
 good_act limits c next number (said.Lane lane what) g says e = good_lane_of limits c next number what (lane_index (length c.lanes) lane) g e
 
 -- so does a line that says something

@@ -25,8 +25,8 @@ use Rattle.level_script.specs.declared.said.Said.TheVariants as said
 use Rattle.level_script.specs.declared.script.Cmd.{Cmd}
 use Rattle.level_script.specs.declared.script.Cmd.TheVariants as cmd
 use Rattle.level_script.specs.declared.script.Script.{Script}
-use Rattle.level_script.specs.declared.script.Who.{Who}
-use Rattle.level_script.specs.declared.script.Who.TheVariants as who
+use Rattle.level_script.specs.declared.script.LaneCmd.{LaneCmd}
+use Rattle.level_script.specs.declared.script.GcCmd.TheVariants as gc_cmd
 
 -- limits in their ranges
 pub record AreLawful (limits : Limits) : Type 0 where
@@ -44,8 +44,8 @@ abbrev pub start : Limits → Context
 start limits = record { classes = record { slots = limits.slots; classes = object ∷ [] }; in_header = true; lanes = replicate limits.lanes closed_lane; fields = []; lines = [] }
 
 -- a line that does something, which ends the header
-abbrev pub with_line : Context → ℕ → Who → Cmd → Context
-with_line c number by command = record { classes = c.classes; in_header = false; lanes = c.lanes; fields = c.fields; lines = c.lines ++ record { number = number; who = by; cmd = command } ∷ [] }
+abbrev pub with_line : Context → ℕ → Cmd → Context
+with_line c number command = record { classes = c.classes; in_header = false; lanes = c.lanes; fields = c.fields; lines = c.lines ++ record { number = number; cmd = command } ∷ [] }
 
 -- the table of classes that a line leaves
 abbrev pub with_classes : Context → Result Schema SchemaErr → Result Context Cause
@@ -88,8 +88,8 @@ abbrev pub field_turn : ℕ → Context → List ℕ → List ℕ → FieldOf �
 field_turn number c class name what count = field_counted number c class name what (elements_in count)
 
 -- what a lane's line leaves, and the line
-abbrev pub with_lane : ℕ → Context → ℕ → Result (LaneNames × Cmd) Cause → Result Context Cause
-with_lane number c index (Ok (lane, command)) = Ok (with_line (record { classes = c.classes; in_header = c.in_header; lanes = slice_set c.lanes index lane; fields = c.fields; lines = c.lines }) number (who.Lane index) command)
+abbrev pub with_lane : ℕ → Context → ℕ → Result (LaneNames × LaneCmd) Cause → Result Context Cause
+with_lane number c index (Ok (lane, command)) = Ok (with_line (record { classes = c.classes; in_header = c.in_header; lanes = slice_set c.lanes index lane; fields = c.fields; lines = c.lines }) number (cmd.Lane index command))
 with_lane number c index (Err why) = Err why
 
 -- the same of the lane at a place
@@ -111,7 +111,7 @@ abbrev pub act_turn : ℕ → Context → Said → Result Context Cause
 act_turn number c said.Nothing = Ok c
 act_turn number c (said.Class name parent) = class_turn number c name parent
 act_turn number c (said.Field class name what count) = field_turn number c class name what count
-act_turn number c said.Full = Ok (with_line c number who.Gc cmd.GcFull)
+act_turn number c said.Full = Ok (with_line c number (cmd.Gc gc_cmd.Full))
 act_turn number c (said.Lane lane does) = lane_turn number c lane does
 
 -- the same of a line that may be wrong

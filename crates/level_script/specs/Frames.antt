@@ -7,24 +7,17 @@ use Rattle.level_script.specs.Forms.{is_identifier, continues_identifier}
 use Rattle.level_script.specs.declared.limits.Limits.{Limits}
 use Rattle.level_script.specs.declared.script.Cmd.{Cmd}
 use Rattle.level_script.specs.declared.script.Cmd.TheVariants as cmd
+use Rattle.level_script.specs.declared.script.LaneCmd.{LaneCmd}
+use Rattle.level_script.specs.declared.script.LaneCmd.TheVariants as lane_cmd
 use Rattle.level_script.specs.declared.script.Line.{Line}
 use Rattle.level_script.specs.declared.script.Script.{Script}
 use Rattle.level_script.specs.declared.script.Spot.{Spot}
-use Rattle.level_script.specs.declared.script.Who.{Who}
-use Rattle.level_script.specs.declared.script.Who.TheVariants as who
 
 -- whether a lane's frame is open after a command of the lane
-abbrev pub opened_after : Cmd → Bool → Bool
-opened_after cmd.Open was = true
-opened_after cmd.Close was = false
-opened_after (cmd.New var class) was = was
-opened_after (cmd.Root var on) was = was
-opened_after (cmd.Set spot to) was = was
-opened_after (cmd.Get var spot) was = was
-opened_after (cmd.Put spot value) was = was
-opened_after (cmd.Take spot) was = was
-opened_after (cmd.Print var) was = was
-opened_after cmd.GcFull was = was
+abbrev pub opened_after : LaneCmd → Bool → Bool
+opened_after lane_cmd.Open was = true
+opened_after lane_cmd.Close was = false
+opened_after _ was = was
 
 -- an element of one of so many variables, in a field with one of so many names
 abbrev pub fits_spot : ℕ → ℕ → Spot → Bool
@@ -36,45 +29,31 @@ fits_target vars None = true
 fits_target vars (Some var) = nat_lt var vars
 
 -- a lane with so many variables may have this command, where there are so many classes and names of fields: its frame is as the command needs it, and its variables, its class and its field are there
-abbrev pub fits_lane : ℕ → ℕ → ℕ → Bool → Cmd → Bool
-fits_lane vars classes fields opened cmd.Open = not opened
-fits_lane vars classes fields opened cmd.Close = opened
-fits_lane vars classes fields opened (cmd.New var class) = opened && nat_lt var vars && nat_lt class.0 classes
-fits_lane vars classes fields opened (cmd.Root var on) = opened && nat_lt var vars
-fits_lane vars classes fields opened (cmd.Set spot to) = opened && fits_spot vars fields spot && fits_target vars to
-fits_lane vars classes fields opened (cmd.Get var spot) = opened && nat_lt var vars && fits_spot vars fields spot
-fits_lane vars classes fields opened (cmd.Put spot value) = opened && fits_spot vars fields spot
-fits_lane vars classes fields opened (cmd.Take spot) = opened && fits_spot vars fields spot
-fits_lane vars classes fields opened (cmd.Print var) = opened && nat_lt var vars
-fits_lane vars classes fields opened cmd.GcFull = false
+abbrev pub fits_lane : ℕ → ℕ → ℕ → Bool → LaneCmd → Bool
+fits_lane vars classes fields opened lane_cmd.Open = not opened
+fits_lane vars classes fields opened lane_cmd.Close = opened
+fits_lane vars classes fields opened (lane_cmd.New var class) = opened && nat_lt var vars && nat_lt class.0 classes
+fits_lane vars classes fields opened (lane_cmd.Root var on) = opened && nat_lt var vars
+fits_lane vars classes fields opened (lane_cmd.Set spot to) = opened && fits_spot vars fields spot && fits_target vars to
+fits_lane vars classes fields opened (lane_cmd.Get var spot) = opened && nat_lt var vars && fits_spot vars fields spot
+fits_lane vars classes fields opened (lane_cmd.Put spot value) = opened && fits_spot vars fields spot
+fits_lane vars classes fields opened (lane_cmd.Take spot) = opened && fits_spot vars fields spot
+fits_lane vars classes fields opened (lane_cmd.Print var) = opened && nat_lt var vars
 
--- the collector may have this command
-abbrev pub fits_gc : Cmd → Bool
-fits_gc cmd.Open = false
-fits_gc cmd.Close = false
-fits_gc (cmd.New var class) = false
-fits_gc (cmd.Root var on) = false
-fits_gc (cmd.Set spot to) = false
-fits_gc (cmd.Get var spot) = false
-fits_gc (cmd.Put spot value) = false
-fits_gc (cmd.Take spot) = false
-fits_gc (cmd.Print var) = false
-fits_gc cmd.GcFull = true
-
--- the command fits who has it, a lane that there is or the collector, while the lanes' frames are so
-abbrev pub fits : List ℕ → ℕ → ℕ → List Bool → Who → Cmd → Bool
-fits vars classes fields frames (who.Lane lane) command = nat_lt lane (length frames) && fits_lane (slice_index vars lane) classes fields (slice_index_or frames lane false) command
-fits vars classes fields frames who.Gc command = fits_gc command
+-- the command is one of a lane that there is, and fits it, while the lanes' frames are so; or it is the collector's
+abbrev pub fits : List ℕ → ℕ → ℕ → List Bool → Cmd → Bool
+fits vars classes fields frames (cmd.Lane lane command) = nat_lt lane (length frames) && fits_lane (slice_index vars lane) classes fields (slice_index_or frames lane false) command
+fits vars classes fields frames (cmd.Gc command) = true
 
 -- the lanes' frames after a command
-abbrev pub frames_after : List Bool → Who → Cmd → List Bool
-frames_after frames (who.Lane lane) command = slice_set frames lane (opened_after command (slice_index_or frames lane false))
-frames_after frames who.Gc command = frames
+abbrev pub frames_after : List Bool → Cmd → List Bool
+frames_after frames (cmd.Lane lane command) = slice_set frames lane (opened_after command (slice_index_or frames lane false))
+frames_after frames (cmd.Gc command) = frames
 
 -- each line fits, from these frames on
 unfoldable pub are_framed : List ℕ → ℕ → ℕ → List Bool → List Line → Bool
 are_framed vars classes fields frames [] = true
-are_framed vars classes fields frames (line ∷ lines) = fits vars classes fields frames line.who line.cmd && are_framed vars classes fields (frames_after frames line.who line.cmd) lines
+are_framed vars classes fields frames (line ∷ lines) = fits vars classes fields frames line.cmd && are_framed vars classes fields (frames_after frames line.cmd) lines
 
 -- the objects of the class are ready as soon as they are asked
 abbrev pub IsAtOnce : Class → Type 0

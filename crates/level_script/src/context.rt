@@ -8,7 +8,7 @@ use crate::lanes::Lanes;
 use crate::limits::Limits;
 use crate::names::NameTable;
 use crate::said::{Does, FieldOf, Said};
-use crate::script::{Cmd, FieldNames, Line, Lines, Script, Who};
+use crate::script::{Cmd, FieldNames, GcCmd, Line, Lines, Script};
 use crate::word::{Identifier, Number};
 use class_schema::{AddErr, ClassTable, FieldKind};
 use std::alloc::{AllocError, Global};
@@ -58,11 +58,11 @@ impl Context {
         })
     }
 
-    fn push(&mut self, number: u32, who: Who, cmd: Cmd) -> Result<(), Stop>
-        ensures { Turns (Ok (with_line self.old number who cmd)) self.new result }
+    fn push(&mut self, number: u32, cmd: Cmd) -> Result<(), Stop>
+        ensures { Turns (Ok (with_line self.old number cmd)) self.new result }
     {
         self.in_header = false;
-        match self.lines.push(Line { number, who, cmd }) {
+        match self.lines.push(Line { number, cmd }) {
             Ok(()) => Ok(()),
             Err(_) => Err(Stop::Memory),
         }
@@ -148,7 +148,7 @@ impl Context {
             return Err(Stop::Faulty(Cause::Number));
         };
         let cmd = self.lanes.step(lane, &self.classes, &self.fields, does)?;
-        self.push(number, Who::Lane(lane), cmd)
+        self.push(number, Cmd::Lane(lane, cmd))
     }
 
     /// A line that says this.
@@ -164,7 +164,7 @@ impl Context {
                 of,
                 count,
             } => self.add_field(number, class, name, of, count),
-            Said::Full => self.push(number, Who::Gc, Cmd::GcFull),
+            Said::Full => self.push(number, Cmd::Gc(GcCmd::Full)),
             Said::Lane { lane, does } => self.lane_line(number, lane, does),
         }
     }

@@ -4,7 +4,7 @@ ghost use Rattle.std.specs.Prelude.{◌<◌, ◌≤◌};
 use crate::cause::{Cause, ParseErr, ScriptErr};
 use crate::limits::Limits;
 use crate::reader::parse;
-use crate::script::{Cmd, Script};
+use crate::script::{LaneCmd, Script};
 use crate::tests::{SMALLEST, is_empty, is_fault, is_script, lane_line, other, read, spot};
 use class_schema::SchemaErr;
 use std::alloc::{AllocError, Global};
@@ -115,12 +115,12 @@ fn none_in_every_place(rt: HostRuntime) {
         "class none Object\nfield none none ref none\nclass A none\nfield A none2 ref none 2\n0 open\n0 new a none\n0 set a.none none\n0 get b a.none";
     let class = ClassId(1);
     let lines = [
-        lane_line(5, 0, Cmd::Open),
-        lane_line(6, 0, Cmd::New { var: 0, class }),
+        lane_line(5, 0, LaneCmd::Open),
+        lane_line(6, 0, LaneCmd::New { var: 0, class }),
         lane_line(
             7,
             0,
-            Cmd::Set {
+            LaneCmd::Set {
                 spot: spot(0, 0, 0),
                 to: None,
             },
@@ -128,7 +128,7 @@ fn none_in_every_place(rt: HostRuntime) {
         lane_line(
             8,
             0,
-            Cmd::Get {
+            LaneCmd::Get {
                 var: 1,
                 spot: spot(0, 0, 0),
             },
@@ -394,7 +394,14 @@ fn long_lines(rt: HostRuntime) {
     bytes
         .extend_from_slice(b"0 open".as_slice())
         .expect(&rt, "memory");
-    assert!(rt; is_script(alloc, &bytes, &[lane_line(1, 0, Cmd::Open)], &[0, 0, 0, 0]));
+    assert!(rt;
+        is_script(
+            alloc,
+            &bytes,
+            &[lane_line(1, 0, LaneCmd::Open)],
+            &[0, 0, 0, 0]
+        )
+    );
 }
 
 // 200,000 lines, with an object in each but the first and the last.
@@ -416,7 +423,7 @@ fn lines_up_to_200_000(rt: HostRuntime) {
     let script = read(alloc, &bytes).expect(&rt, "a script");
     assert_eq!(rt; script.lines.as_slice().len(), 200_000);
     assert!(rt; script.vars.as_slice() == [199_998, 0, 0, 0].as_slice());
-    assert!(rt; script.lines.as_slice().last() == Some(&lane_line(200_000, 0, Cmd::Close)));
+    assert!(rt; script.lines.as_slice().last() == Some(&lane_line(200_000, 0, LaneCmd::Close)));
     bytes
         .extend_from_slice(b"\xff".as_slice())
         .expect(&rt, "memory");

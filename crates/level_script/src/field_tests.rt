@@ -1,6 +1,6 @@
 //! Lines on the fields of objects: `field` in the header, and the lines of a lane that have a spot.
 use crate::cause::Cause;
-use crate::script::{Cmd, Script, Spot};
+use crate::script::{Cmd, LaneCmd, Script, Spot};
 use crate::tests::{is_fault, is_script, lane_line, other, read, spot};
 use class_schema::{Field, FieldKind, SchemaErr};
 use std::alloc::{AllocError, Global};
@@ -18,14 +18,13 @@ fn with_start(alloc: Global, line: &str) -> Result<Vec<u8>, AllocError> {
 }
 
 // The command of a line that follows the five.
-fn command(alloc: Global, line: &str) -> Option<Cmd> {
+fn command(alloc: Global, line: &str) -> Option<LaneCmd> {
     let bytes = with_start(alloc, line).ok()?;
     let script = read(alloc, &bytes).ok()?;
     let line = *script.lines.as_slice().last()?;
-    if line.number == 6 {
-        Some(line.cmd)
-    } else {
-        None
+    match line.cmd {
+        Cmd::Lane(_, cmd) if line.number == 6 => Some(cmd),
+        _ => None,
     }
 }
 
@@ -193,14 +192,14 @@ fn element(field: u32, index: u32) -> Spot {
     spot(0, field, index)
 }
 
-fn take(field: u32, index: u32) -> Cmd {
-    Cmd::Take {
+fn take(field: u32, index: u32) -> LaneCmd {
+    LaneCmd::Take {
         spot: element(field, index),
     }
 }
 
-fn put(field: u32, value: u64) -> Cmd {
-    Cmd::Put {
+fn put(field: u32, value: u64) -> LaneCmd {
+    LaneCmd::Put {
         spot: element(field, 0),
         value,
     }
@@ -230,32 +229,32 @@ fn commands_with_spots(rt: HostRuntime) {
             put(N, 9223372036854775808),
         ),
         ("0 put a.f 5", put(F, 5)),
-        ("0 set a.f a", Cmd::Set { spot, to: Some(0) }),
-        ("0 set a.f none", Cmd::Set { spot, to: None }),
+        ("0 set a.f a", LaneCmd::Set { spot, to: Some(0) }),
+        ("0 set a.f none", LaneCmd::Set { spot, to: None }),
         (
             "0 set a.n[0] a",
-            Cmd::Set {
+            LaneCmd::Set {
                 spot: element(N, 0),
                 to: Some(0),
             },
         ),
         (
             "0 set a.f[1] none",
-            Cmd::Set {
+            LaneCmd::Set {
                 spot: element(F, 1),
                 to: None,
             },
         ),
-        ("0 get b a.f", Cmd::Get { var: 1, spot }),
-        ("0 get a a.f", Cmd::Get { var: 0, spot }),
+        ("0 get b a.f", LaneCmd::Get { var: 1, spot }),
+        ("0 get a a.f", LaneCmd::Get { var: 0, spot }),
         (
             "0 get b a.f[1]",
-            Cmd::Get {
+            LaneCmd::Get {
                 var: 1,
                 spot: element(F, 1),
             },
         ),
-        ("0 print a", Cmd::Print { var: 0 }),
+        ("0 print a", LaneCmd::Print { var: 0 }),
     ] {
         assert!(rt; command(alloc, line) == Some(want), "{line}");
     }
@@ -267,13 +266,13 @@ fn numbers_of_variables_and_fields(rt: HostRuntime) {
         "class A Object\nfield A n int\nfield A f ref A\nclass B Object\nfield B g weak\n0 open\n1 open\n0 new a A\n1 new x B\n0 get b a.f\n0 put b.n 1\n1 take x.g\n0 set a.f b\n0 get a b.f\n0 take a.g\n0 close\n0 open\n0 new b A\n0 print b\n0 get c b.f\n0 set c.f c";
     let class = ClassId(1);
     let lines = [
-        lane_line(6, 0, Cmd::Open),
-        lane_line(7, 1, Cmd::Open),
-        lane_line(8, 0, Cmd::New { var: 0, class }),
+        lane_line(6, 0, LaneCmd::Open),
+        lane_line(7, 1, LaneCmd::Open),
+        lane_line(8, 0, LaneCmd::New { var: 0, class }),
         lane_line(
             9,
             1,
-            Cmd::New {
+            LaneCmd::New {
                 var: 0,
                 class: ClassId(2),
             },
@@ -281,7 +280,7 @@ fn numbers_of_variables_and_fields(rt: HostRuntime) {
         lane_line(
             10,
             0,
-            Cmd::Get {
+            LaneCmd::Get {
                 var: 1,
                 spot: spot(0, 1, 0),
             },
@@ -289,7 +288,7 @@ fn numbers_of_variables_and_fields(rt: HostRuntime) {
         lane_line(
             11,
             0,
-            Cmd::Put {
+            LaneCmd::Put {
                 spot: spot(1, 0, 0),
                 value: 1,
             },
@@ -297,14 +296,14 @@ fn numbers_of_variables_and_fields(rt: HostRuntime) {
         lane_line(
             12,
             1,
-            Cmd::Take {
+            LaneCmd::Take {
                 spot: spot(0, 2, 0),
             },
         ),
         lane_line(
             13,
             0,
-            Cmd::Set {
+            LaneCmd::Set {
                 spot: spot(0, 1, 0),
                 to: Some(1),
             },
@@ -312,7 +311,7 @@ fn numbers_of_variables_and_fields(rt: HostRuntime) {
         lane_line(
             14,
             0,
-            Cmd::Get {
+            LaneCmd::Get {
                 var: 0,
                 spot: spot(1, 1, 0),
             },
@@ -320,18 +319,18 @@ fn numbers_of_variables_and_fields(rt: HostRuntime) {
         lane_line(
             15,
             0,
-            Cmd::Take {
+            LaneCmd::Take {
                 spot: spot(0, 2, 0),
             },
         ),
-        lane_line(16, 0, Cmd::Close),
-        lane_line(17, 0, Cmd::Open),
-        lane_line(18, 0, Cmd::New { var: 1, class }),
-        lane_line(19, 0, Cmd::Print { var: 1 }),
+        lane_line(16, 0, LaneCmd::Close),
+        lane_line(17, 0, LaneCmd::Open),
+        lane_line(18, 0, LaneCmd::New { var: 1, class }),
+        lane_line(19, 0, LaneCmd::Print { var: 1 }),
         lane_line(
             20,
             0,
-            Cmd::Get {
+            LaneCmd::Get {
                 var: 2,
                 spot: spot(1, 1, 0),
             },
@@ -339,7 +338,7 @@ fn numbers_of_variables_and_fields(rt: HostRuntime) {
         lane_line(
             21,
             0,
-            Cmd::Set {
+            LaneCmd::Set {
                 spot: spot(2, 1, 0),
                 to: Some(2),
             },

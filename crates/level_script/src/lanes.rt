@@ -5,7 +5,7 @@ ghost use Rattle.level_script.specs.Lanes.{closed_lane, open_step, close_step, n
 use crate::cause::{Cause, Stop};
 use crate::names::{NameTable, NumberSet};
 use crate::said::{Does, Place};
-use crate::script::{Cmd, Counts, Spot};
+use crate::script::{Counts, LaneCmd, Spot};
 use crate::word::{Identifier, Number};
 use class_schema::ClassTable;
 use std::alloc::{AllocError, Global};
@@ -43,17 +43,17 @@ impl LaneNames {
         }
     }
 
-    fn open(&mut self) -> Result<Cmd, Stop>
+    fn open(&mut self) -> Result<LaneCmd, Stop>
         ensures { Steps (open_step self.old) self.new result }
     {
         if self.opened {
             return Err(Stop::Faulty(Cause::Frame));
         }
         self.opened = true;
-        Ok(Cmd::Open)
+        Ok(LaneCmd::Open)
     }
 
-    fn close(&mut self) -> Result<Cmd, Stop>
+    fn close(&mut self) -> Result<LaneCmd, Stop>
         ensures { Steps (close_step self.old) self.new result }
     {
         if !self.opened {
@@ -61,7 +61,7 @@ impl LaneNames {
         }
         self.opened = false;
         self.bound.clear();
-        Ok(Cmd::Close)
+        Ok(LaneCmd::Close)
     }
 
     fn make(
@@ -69,7 +69,7 @@ impl LaneNames {
         classes: &ClassTable,
         var: &Identifier<'_>,
         class: &Identifier<'_>,
-    ) -> Result<Cmd, Stop>
+    ) -> Result<LaneCmd, Stop>
         ensures { Steps (new_step classes.now.classes self.old var.now class.now) self.new result }
     {
         if !self.opened {
@@ -84,7 +84,7 @@ impl LaneNames {
         let Ok(()) = self.bound.add(var) else {
             return Err(Stop::Memory);
         };
-        Ok(Cmd::New { var, class })
+        Ok(LaneCmd::New { var, class })
     }
 
     // The number of a variable that is bound in the open frame.
@@ -99,7 +99,7 @@ impl LaneNames {
         }
     }
 
-    fn root(&mut self, var: &Identifier<'_>, on: bool) -> Result<Cmd, Stop>
+    fn root(&mut self, var: &Identifier<'_>, on: bool) -> Result<LaneCmd, Stop>
         ensures { Steps (root_step self.old var.now on) self.new result }
     {
         if !self.opened {
@@ -108,7 +108,7 @@ impl LaneNames {
         let Some(var) = self.bound_var(var.as_str()) else {
             return Err(Stop::Faulty(Cause::UnknownName));
         };
-        Ok(Cmd::Root { var, on })
+        Ok(LaneCmd::Root { var, on })
     }
 
     // The variable whose object is stored, or none.
@@ -139,7 +139,7 @@ impl LaneNames {
         fields: &NameTable,
         place: &Place<'_>,
         to: &Option<Identifier<'_>>,
-    ) -> Result<Cmd, Stop>
+    ) -> Result<LaneCmd, Stop>
         ensures { Steps (set_step fields.now self.old place.now to.now) self.new result }
     {
         let Some(element) = element_in(&place.element) else {
@@ -154,7 +154,7 @@ impl LaneNames {
         let Some(to) = self.target(to) else {
             return Err(Stop::Faulty(Cause::UnknownName));
         };
-        Ok(Cmd::Set { spot, to })
+        Ok(LaneCmd::Set { spot, to })
     }
 
     fn get(
@@ -162,7 +162,7 @@ impl LaneNames {
         fields: &NameTable,
         var: &Identifier<'_>,
         place: &Place<'_>,
-    ) -> Result<Cmd, Stop>
+    ) -> Result<LaneCmd, Stop>
         ensures { Steps (get_step fields.now self.old var.now place.now) self.new result }
     {
         let Some(element) = element_in(&place.element) else {
@@ -180,10 +180,15 @@ impl LaneNames {
         let Ok(()) = self.bound.add(var) else {
             return Err(Stop::Memory);
         };
-        Ok(Cmd::Get { var, spot })
+        Ok(LaneCmd::Get { var, spot })
     }
 
-    fn put(&mut self, fields: &NameTable, place: &Place<'_>, value: &Number) -> Result<Cmd, Stop>
+    fn put(
+        &mut self,
+        fields: &NameTable,
+        place: &Place<'_>,
+        value: &Number,
+    ) -> Result<LaneCmd, Stop>
         ensures { Steps (put_step fields.now self.old place.now value.now) self.new result }
     {
         let Some(element) = element_in(&place.element) else {
@@ -196,12 +201,12 @@ impl LaneNames {
             return Err(Stop::Faulty(Cause::Frame));
         }
         match self.spot(fields, place, element) {
-            Some(spot) => Ok(Cmd::Put { spot, value }),
+            Some(spot) => Ok(LaneCmd::Put { spot, value }),
             None => Err(Stop::Faulty(Cause::UnknownName)),
         }
     }
 
-    fn take(&mut self, fields: &NameTable, place: &Place<'_>) -> Result<Cmd, Stop>
+    fn take(&mut self, fields: &NameTable, place: &Place<'_>) -> Result<LaneCmd, Stop>
         ensures { Steps (take_step fields.now self.old place.now) self.new result }
     {
         let Some(element) = element_in(&place.element) else {
@@ -211,12 +216,12 @@ impl LaneNames {
             return Err(Stop::Faulty(Cause::Frame));
         }
         match self.spot(fields, place, element) {
-            Some(spot) => Ok(Cmd::Take { spot }),
+            Some(spot) => Ok(LaneCmd::Take { spot }),
             None => Err(Stop::Faulty(Cause::UnknownName)),
         }
     }
 
-    fn print(&mut self, var: &Identifier<'_>) -> Result<Cmd, Stop>
+    fn print(&mut self, var: &Identifier<'_>) -> Result<LaneCmd, Stop>
         ensures { Steps (print_step self.old var.now) self.new result }
     {
         if !self.opened {
@@ -225,7 +230,7 @@ impl LaneNames {
         let Some(var) = self.bound_var(var.as_str()) else {
             return Err(Stop::Faulty(Cause::UnknownName));
         };
-        Ok(Cmd::Print { var })
+        Ok(LaneCmd::Print { var })
     }
 
     // Does what a line of the lane says.
@@ -234,7 +239,7 @@ impl LaneNames {
         classes: &ClassTable,
         fields: &NameTable,
         does: &Does<'_>,
-    ) -> Result<Cmd, Stop>
+    ) -> Result<LaneCmd, Stop>
         ensures { Steps (lane_step classes.now.classes fields.now self.old does.now) self.new result }
     {
         match does {
@@ -304,7 +309,7 @@ impl Lanes {
         classes: &ClassTable,
         fields: &NameTable,
         does: &Does<'_>,
-    ) -> Result<Cmd, Stop>
+    ) -> Result<LaneCmd, Stop>
         requires { lane < length self.old }
         ensures { StepsAt classes.now.classes fields.now self.old lane does.now self.new result }
     {

@@ -5,7 +5,7 @@
 //! list of its words. `specs/` has the grammar, apart from the code: `Lines` cuts an input,
 //! `Forms` has the words, `Commands` the lines, `Lanes` and `Context` what one more line adds to
 //! what the lines before it have made known, `Reading` whole inputs, and `Frames` what a player may
-//! rely on. So far there are the commands `class NAME PARENT` and `field CLASS NAME KIND` of the
+//! rely on. A command is one of a lane or of the collector (`Cmd`). So far there are the commands `class NAME PARENT` and `field CLASS NAME KIND` of the
 //! header, `gc full`, and after a lane `open`, `close`, `new V CLASS`, `root V on`, `root V off`,
 //! `set SPOT V`, `get V SPOT`, `put SPOT N`, `take SPOT` and `print V`. Any other command is an
 //! unknown one.
@@ -35,7 +35,7 @@ pub use cause::{Cause, ParseErr, ScriptErr};
 pub use class_schema::{AddErr, ClassTable, Field, FieldKind, SchemaErr};
 pub use limits::Limits;
 pub use reader::parse;
-pub use script::{Cmd, Counts, FieldNames, Line, Lines, Script, Spot, Who};
+pub use script::{Cmd, Counts, FieldNames, GcCmd, LaneCmd, Line, Lines, Script, Spot};
 
 #[cfg(test)]
 mod fault_tests;

@@ -7,15 +7,6 @@ use std::alloc::{AllocError, Global};
 use std::marker::Model;
 use world_model::ClassId;
 
-/// Who does what a line says.
-#[derive(Clone, Copy, Debug, PartialEq, Eq)]
-pub enum Who {
-    /// The lane with this number.
-    Lane(u32),
-    /// The collector.
-    Gc,
-}
-
 /// An element of a field of the object of a variable.
 #[derive(Clone, Copy, Debug, PartialEq, Eq)]
 pub struct Spot {
@@ -27,10 +18,10 @@ pub struct Spot {
     pub element: u32,
 }
 
-/// What a line says. Variables are numbers of the lane's object variables, from 0 in the order in
+/// What a lane does. Variables are numbers of the lane's object variables, from 0 in the order in
 /// which the lane's lines mention them first.
 #[derive(Clone, Copy, Debug, PartialEq, Eq)]
-pub enum Cmd {
+pub enum LaneCmd {
     /// The lane opens its frame.
     Open,
     /// The lane closes its frame, and its variables end.
@@ -49,8 +40,22 @@ pub enum Cmd {
     Take { spot: Spot },
     /// The object of the variable is told, with its class.
     Print { var: u32 },
-    /// The collector does a whole collection.
-    GcFull,
+}
+
+/// What the collector does.
+#[derive(Clone, Copy, Debug, PartialEq, Eq)]
+pub enum GcCmd {
+    /// A whole collection.
+    Full,
+}
+
+/// What a line says.
+#[derive(Clone, Copy, Debug, PartialEq, Eq)]
+pub enum Cmd {
+    /// The lane with this number does something.
+    Lane(u32, LaneCmd),
+    /// The collector does something.
+    Gc(GcCmd),
 }
 
 /// A line that does something.
@@ -58,7 +63,6 @@ pub enum Cmd {
 pub struct Line {
     /// The number of the line in the input, from 1.
     pub number: u32,
-    pub who: Who,
     pub cmd: Cmd,
 }
 

@@ -2,7 +2,7 @@
 use crate::cause::{Cause, ParseErr, ScriptErr};
 use crate::limits::Limits;
 use crate::reader::parse;
-use crate::script::{Cmd, Line, Script, Spot, Who};
+use crate::script::{Cmd, GcCmd, LaneCmd, Line, Script, Spot};
 use class_schema::SchemaErr;
 use std::alloc::Global;
 use world_model::ClassId;
@@ -37,31 +37,29 @@ pub(crate) fn other<'a>(alloc: Global, inputs: &[(&'a str, u32)], cause: Cause) 
 pub(crate) const SMALLEST: [Line; 5] = [
     Line {
         number: 2,
-        who: Who::Lane(0),
-        cmd: Cmd::Open,
+        cmd: Cmd::Lane(0, LaneCmd::Open),
     },
     Line {
         number: 3,
-        who: Who::Lane(0),
-        cmd: Cmd::New {
-            var: 0,
-            class: ClassId(1),
-        },
+        cmd: Cmd::Lane(
+            0,
+            LaneCmd::New {
+                var: 0,
+                class: ClassId(1),
+            },
+        ),
     },
     Line {
         number: 4,
-        who: Who::Lane(0),
-        cmd: Cmd::Root { var: 0, on: true },
+        cmd: Cmd::Lane(0, LaneCmd::Root { var: 0, on: true }),
     },
     Line {
         number: 5,
-        who: Who::Lane(0),
-        cmd: Cmd::Close,
+        cmd: Cmd::Lane(0, LaneCmd::Close),
     },
     Line {
         number: 6,
-        who: Who::Gc,
-        cmd: Cmd::GcFull,
+        cmd: Cmd::Gc(GcCmd::Full),
     },
 ];
 
@@ -78,11 +76,10 @@ fn is_smallest(alloc: Global, text: &str) -> bool {
     }
 }
 
-pub(crate) fn lane_line(number: u32, lane: u32, cmd: Cmd) -> Line {
+pub(crate) fn lane_line(number: u32, lane: u32, cmd: LaneCmd) -> Line {
     Line {
         number,
-        who: Who::Lane(lane),
-        cmd,
+        cmd: Cmd::Lane(lane, cmd),
     }
 }
 
@@ -97,7 +94,7 @@ pub(crate) fn spot(var: u32, field: u32, element: u32) -> Spot {
 // A line that makes an object of class `Object`.
 fn object_line(number: u32, lane: u32, var: u32) -> Line {
     let class = ClassId(0);
-    lane_line(number, lane, Cmd::New { var, class })
+    lane_line(number, lane, LaneCmd::New { var, class })
 }
 
 pub(crate) fn is_script(alloc: Global, bytes: &[u8], lines: &[Line], vars: &[u32]) -> bool {
@@ -130,7 +127,7 @@ fn the_smallest_script(rt: HostRuntime) {
 #[test]
 fn objects_without_roots(rt: HostRuntime) {
     let alloc = rt.alloc();
-    let lines = [lane_line(1, 0, Cmd::Open), object_line(2, 0, 0)];
+    let lines = [lane_line(1, 0, LaneCmd::Open), object_line(2, 0, 0)];
     for text in [
         "0 open\n0 new a Object",
         "0 open\n0 new a Object\n",
@@ -141,17 +138,16 @@ fn objects_without_roots(rt: HostRuntime) {
     let text =
         "0 open\n1 open\n0 new a Object\n0 new b Object\n1 new b Object\n0 new a Object\n\n0 close\ngc full";
     let lines = [
-        lane_line(1, 0, Cmd::Open),
-        lane_line(2, 1, Cmd::Open),
+        lane_line(1, 0, LaneCmd::Open),
+        lane_line(2, 1, LaneCmd::Open),
         object_line(3, 0, 0),
         object_line(4, 0, 1),
         object_line(5, 1, 0),
         object_line(6, 0, 0),
-        lane_line(8, 0, Cmd::Close),
+        lane_line(8, 0, LaneCmd::Close),
         Line {
             number: 9,
-            who: Who::Gc,
-            cmd: Cmd::GcFull,
+            cmd: Cmd::Gc(GcCmd::Full),
         },
     ];
     assert!(rt; is_script(alloc, text.as_bytes(), &lines, &[2, 1, 0, 0]));
@@ -162,14 +158,14 @@ fn roots_on_and_off(rt: HostRuntime) {
     let text =
         "0 open\n0 new a Object\n0 root a off\n0 new b Object\n\n0 root a on\n00 root b on\n0\troot  a off\n0 root a on";
     let lines = [
-        lane_line(1, 0, Cmd::Open),
+        lane_line(1, 0, LaneCmd::Open),
         object_line(2, 0, 0),
-        lane_line(3, 0, Cmd::Root { var: 0, on: false }),
+        lane_line(3, 0, LaneCmd::Root { var: 0, on: false }),
         object_line(4, 0, 1),
-        lane_line(6, 0, Cmd::Root { var: 0, on: true }),
-        lane_line(7, 0, Cmd::Root { var: 1, on: true }),
-        lane_line(8, 0, Cmd::Root { var: 0, on: false }),
-        lane_line(9, 0, Cmd::Root { var: 0, on: true }),
+        lane_line(6, 0, LaneCmd::Root { var: 0, on: true }),
+        lane_line(7, 0, LaneCmd::Root { var: 1, on: true }),
+        lane_line(8, 0, LaneCmd::Root { var: 0, on: false }),
+        lane_line(9, 0, LaneCmd::Root { var: 0, on: true }),
     ];
     assert!(rt; is_script(rt.alloc(), text.as_bytes(), &lines, &[2, 0, 0, 0]));
 }
@@ -180,11 +176,11 @@ fn names_that_look_alike(rt: HostRuntime) {
     let text =
         "0 open\n0 new name1tail Object\n0 new name2tail Object\n0 root name1tail on\n0 root name2tail off\n0 new name2tail Object";
     let lines = [
-        lane_line(1, 0, Cmd::Open),
+        lane_line(1, 0, LaneCmd::Open),
         object_line(2, 0, 0),
         object_line(3, 0, 1),
-        lane_line(4, 0, Cmd::Root { var: 0, on: true }),
-        lane_line(5, 0, Cmd::Root { var: 1, on: false }),
+        lane_line(4, 0, LaneCmd::Root { var: 0, on: true }),
+        lane_line(5, 0, LaneCmd::Root { var: 1, on: false }),
         object_line(6, 0, 1),
     ];
     assert!(rt; is_script(rt.alloc(), text.as_bytes(), &lines, &[2, 0, 0, 0]));
@@ -337,7 +333,10 @@ fn a_new_in_the_last_line(rt: HostRuntime) {
     bytes
         .extend_from_slice("0 open\n0 new a Object".as_bytes())
         .expect(&rt, "memory");
-    let lines = [lane_line(199_999, 0, Cmd::Open), object_line(200_000, 0, 0)];
+    let lines = [
+        lane_line(199_999, 0, LaneCmd::Open),
+        object_line(200_000, 0, 0),
+    ];
     assert!(rt; is_script(alloc, &bytes, &lines, &[1, 0, 0, 0]));
     bytes
         .extend_from_slice("\n0 root a on".as_bytes())

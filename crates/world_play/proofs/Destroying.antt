@@ -12,7 +12,7 @@ use Rattle.world_model.specs.State.{State}
 use Rattle.world_model.specs.CollectorSteps.{to_release}
 use Rattle.world_model.specs.Next.{next, run}
 use Rattle.world_model.specs.Histories.{StepOfCollector, LegalFrom}
-use Rattle.world_model.specs.Calls.{by, is_purge_part, is_purge_step, PurgesAlone}
+use Rattle.world_model.specs.Calls.{by, is_purge_part, is_purge_step, PurgeEntries}
 use Rattle.world_model.proofs.Joins.{run-append, by-append, legal_split}
 use Rattle.world_model.proofs.ListFacts.{and_true, or_true, or_right, or_false, Among, among_append, among_filter, filter_among}
 use Rattle.world_model.proofs.NameFacts.{same_name_true, same_name_refl}
@@ -23,7 +23,7 @@ use Rattle.world_play.specs.Types.ready
 use Rattle.world_play.specs.Types.act
 use Rattle.world_play.specs.Types.purge
 use Rattle.world_model.specs.Hooks.{class_of}
-use Rattle.world_play.specs.Plays.{AnswersBy, PurgesAll}
+use Rattle.world_play.specs.Collections.{AnswersBy, PurgesAll}
 use Rattle.world_play.proofs.Different.{has_append}
 use Rattle.std.proofs.lemmas.List.Sums.{sum_by-cons}
 
@@ -416,7 +416,7 @@ all_front P (x ∷ xs) ys h = (h.0, all_front P xs ys h.1)
 closed : (s : State) (budget : ℕ) (reply : Purged) (steps : ℕ) → IsDestroying s → s.collector.agreed ≡ None → IsDestroying (next s (entry_of (act.PurgeGc budget reply)))
 closed s budget reply steps well none = record { different = well.different; agreed = λ n e. absurd cc }
 
-purge_takes : (z : Sizes) (header : Header) (s : State) (budget steps left : ℕ) (acts : List Act) → PurgesAlone budget (purge.Ran steps left) acts → LegalFrom z s (by Collector acts)
+purge_takes : (z : Sizes) (header : Header) (s : State) (budget steps left : ℕ) (acts : List Act) → PurgeEntries budget (purge.Ran steps left) acts → LegalFrom z s (by Collector acts)
     → InTable header s.world → AllByRecursion (AnswersBy header s.world) acts → IsDestroying s → s.collector.agreed ≡ None → HasPurged s (run s (by Collector acts)) steps
 purge_takes z header s budget steps left acts h legal table says well none =
     let last : List Act = act.PurgeGc budget (purge.Ran steps left) ∷ [] in
@@ -455,7 +455,7 @@ purges_end z budget header bound s [] h legal table well none idle few = ap (λ 
 purges_end z budget header bound s (acts ∷ rest) (some, more, (steps, left, call, says, others)) legal table well none idle few =
     let parts = legal_split z s (by Collector acts) (flat_map (by Collector) rest) legal in
     let t : State = run s (by Collector acts) in
-    let one = purge_takes z header s (min budget bound) steps left acts call parts.0 table says well none in
+    let one = purge_takes z header s (min budget bound) steps left acts call.0 parts.0 table says well none in
     let same : InTable header t.world = record { known = λ n. subst (λ (w : World). (class_of w n).0 < length header.classes.classes) (sym one.rest) (table.known n); at_once = table.at_once } in
     let still : t.world.phase ≡ Idle = ap (λ (w : World). w.phase) one.rest ∙ idle in
     let fewer : weight t.world.removals ≤ bound - steps = let l = one.less in omega (arith, l, few) in

@@ -24,15 +24,16 @@ use Rattle.world_model.specs.Next.{run}
 use Rattle.world_model.specs.Histories.{Legal}
 use Rattle.world_play.specs.Types.{Entry, Line}
 use Rattle.world_play.specs.Text.{text_of}
-use Rattle.world_play.specs.Plays.{Bindings, no_bindings, reply_in, Plays, text}
+use Rattle.world_play.specs.Bindings.{Bindings, no_bindings}
+use Rattle.world_play.specs.Plays.{Plays, text}
 use Rattle.world_play.specs.Outcome.{outcome}
-use Rattle.world_play.specs.Types.{Who, Cmd}
-use Rattle.world_play.specs.Types.who
+use Rattle.world_play.specs.Types.{Cmd, LaneCmd}
 use Rattle.world_play.specs.Types.cmd
+use Rattle.world_play.specs.Types.lane_cmd
 use Rattle.level_script.specs.Frames as frame
-use Rattle.level_script.specs.Frames.{are_framed, IsPlayable}
+use Rattle.level_script.specs.Frames.{fits_lane, are_framed, IsPlayable}
 use Rattle.world_model.proofs.ListFacts.{and_true}
-use Rattle.world_play.specs.Laws.{HasClass, OneText}
+use Rattle.world_play.specs.Laws.{LaneClass, HasClass, OneText}
 use Rattle.world_play.specs.Turns.{Stops, Played, Stopped}
 use Rattle.world_play.specs.Ends.{header_of, limits_in, history_of, IsScript, HasFault, WasTaken, Refuses, WritesFault, HasRun, WasPlayed, OnDone, OnStopped, IsInput, NamesExactly, NamesFault, EndsWell, EndsEarly, WritesOutcome, CountsLines, TellsScript}
 use Rattle.world_play.specs.declared.status.Status.{Status}
@@ -42,7 +43,6 @@ use Rattle.class_schema.specs.Class.{Class}
 use Rattle.class_schema.specs.Ancestry.{class_at}
 use Rattle.world_play.specs.Types.{ClassId, Reply}
 use Rattle.world_play.specs.Types.reply
-use Rattle.world_play.specs.Plays.{names_after}
 use Rattle.world_play.proofs.Lines.{IsPlain, ToldPlain, feeds_append, is_line, one_feed, start_plain}
 use Rattle.world_play.proofs.Streams.{gained_none}
 
@@ -121,23 +121,24 @@ told_plain classes (reply.Object lane n class) plain = plain class
 told_plain classes r plain = tt
 
 -- the text of lines has one line feed for each
-pub text_feeds : (budget : ℕ) (header : Header) (s : State) (names last : Bindings) (lines : List Line) (pieces : List (List Entry)) → PlainNames header.classes.classes → Plays budget header s names lines pieces last
-    → line_feeds (text header s names lines pieces) ≡ length lines
-unfolding Plays text
-text_feeds budget header s names last [] [] plain plays = refl
-text_feeds budget header s names last (l ∷ lines) (p ∷ pieces) plain plays =
-    let r : Reply = reply_in header s names l.who l.cmd p in
+pub text_feeds : (budget : ℕ) (header : Header) (s : State) (names last : Bindings) (lines : List Line) (pieces : List (List Entry)) (replies : List Reply) → PlainNames header.classes.classes → Plays budget header s names lines pieces replies last
+    → line_feeds (text header.classes.classes replies) ≡ length lines
+unfolding Plays
+text_feeds budget header s names last [] [] [] plain plays = refl
+text_feeds budget header s names last (l ∷ lines) (p ∷ pieces) (r ∷ replies) plain plays =
     let first : line_feeds (text_of header.classes.classes r) ≡ 1 = one_feed _ (is_line header.classes.classes r (told_plain header.classes.classes r plain)) in
-    let rest = text_feeds budget header (run s p) _ last lines pieces plain plays.1 in
-    omega (arith, first, rest, feeds_append (text_of header.classes.classes r) (text header (run s p) (names_after names l.who l.cmd r) lines pieces))
-text_feeds budget header s names last [] (p ∷ pieces) plain plays = absurd plays
-text_feeds budget header s names last (l ∷ lines) [] plain plays = absurd plays
+    let rest = text_feeds budget header (run s p) plays.0 last lines pieces replies plain plays.2 in
+    omega (arith, first, rest, feeds_append (text_of header.classes.classes r) (text header.classes.classes replies))
+text_feeds budget header s names last [] [] (r ∷ replies) plain plays = absurd plays
+text_feeds budget header s names last [] (p ∷ pieces) replies plain plays = absurd plays
+text_feeds budget header s names last (l ∷ lines) [] replies plain plays = absurd plays
+text_feeds budget header s names last (l ∷ lines) (p ∷ pieces) [] plain plays = absurd plays
 
 -- a beginning of a reply has none
 stops_plain : (budget : ℕ) (header : Header) (s : State) (names : Bindings) (rest : List Line) (part : List Entry) (some : List ℕ) → PlainNames header.classes.classes → Stops budget header s names rest part some → line_feeds some ≡ 0
 stops_plain budget header s names [] part some plain h = ap line_feeds h.1
 stops_plain budget header s names (l ∷ ls) part some plain (inl (made, none)) = ap line_feeds none
-stops_plain budget header s names (l ∷ ls) part some plain (inr (made, start)) = let r : Reply = reply_in header s names l.who l.cmd part in start_plain some _ start (is_line header.classes.classes r (told_plain header.classes.classes r plain))
+stops_plain budget header s names (l ∷ ls) part some plain (inr (r, new, turn, start)) = start_plain some _ start (is_line header.classes.classes r (told_plain header.classes.classes r plain))
 
 -- so the number of replies that were put is that of the line feeds
 counts_gained : (had has : Option (List ℕ)) (bytes : List ℕ) (count : ℕ) → Gained had has bytes → count ≡ line_feeds bytes → CountsLines had has count
@@ -149,13 +150,13 @@ counts_none had has count same none = counts_gained had has [] count (subst (λ 
 
 counts_all : (z : Sizes) (budget : ℕ) (header : Header) (lines : List Line) (history : List Entry) (had has : Option (List ℕ)) (count : ℕ) → PlainNames header.classes.classes → Played z budget header lines history had has → count ≡ length lines → CountsLines had has count
 counts_all z budget header lines history had has count plain h number =
-    counts_gained had has (text header beginning no_bindings lines h.pieces) count h.put (number ∙ sym (text_feeds budget header beginning no_bindings h.last lines h.pieces plain h.plays))
+    counts_gained had has (text header.classes.classes h.replies) count h.put (number ∙ sym (text_feeds budget header beginning no_bindings h.last lines h.pieces h.replies plain h.plays))
 
 counts_some : (z : Sizes) (budget : ℕ) (header : Header) (lines : List Line) (history : List Entry) (had has : Option (List ℕ)) (count : ℕ) → PlainNames header.classes.classes → Stopped z budget header lines history had has count → CountsLines had has count
 counts_some z budget header lines history had has count plain h =
-    let whole : line_feeds (text header beginning no_bindings h.whole h.pieces) ≡ length h.whole = text_feeds budget header beginning no_bindings h.names h.whole h.pieces plain h.plays in
+    let whole : line_feeds (text header.classes.classes h.replies) ≡ length h.whole = text_feeds budget header beginning no_bindings h.names h.whole h.pieces h.replies plain h.plays in
     let rest : line_feeds h.some ≡ 0 = stops_plain budget header _ h.names h.rest h.part h.some plain h.stops in
-    counts_gained had has (text header beginning no_bindings h.whole h.pieces ++ h.some) count h.put (omega (arith, h.number, whole, rest, feeds_append (text header beginning no_bindings h.whole h.pieces) h.some))
+    counts_gained had has (text header.classes.classes h.replies ++ h.some) count h.put (omega (arith, h.number, whole, rest, feeds_append (text header.classes.classes h.replies) h.some))
 
 -- ---- what a run that played says of the whole of it
 
@@ -192,34 +193,28 @@ headline_of w status.Memory left now script r had has count is taken h = tt
 
 -- ---- the classes of a script that can be played
 
--- the class of a line that fits is there
-fits_class : (vars : List ℕ) (header : Header) (frames : List Bool) (w : Who) (what : Cmd) → frame.fits vars (length header.classes.classes) (length header.fields) frames w what ≡ true → HasClass header what
-fits_class vars header frames (who.Lane lane) (cmd.New var class) h =
-    let parts = and_true (nat_lt lane (length frames)) _ h in
-    let last : nat_lt class.0 (length header.classes.classes) ≡ true = (and_true (slice_index_or frames lane false && nat_lt var (slice_index vars lane)) (nat_lt class.0 (length header.classes.classes)) parts.1).1 in
-    grind (arith, nat_tests, last)
-fits_class vars header frames who.Gc (cmd.New var class) h = absurd cc
-fits_class vars header frames w cmd.Open h = tt
-fits_class vars header frames w cmd.Close h = tt
-fits_class vars header frames w (cmd.Root var on) h = tt
-fits_class vars header frames w (cmd.Set spot to) h = tt
-fits_class vars header frames w (cmd.Get var spot) h = tt
-fits_class vars header frames w (cmd.Put spot value) h = tt
-fits_class vars header frames w (cmd.Take spot) h = tt
-fits_class vars header frames w (cmd.Print var) h = tt
-fits_class vars header frames w cmd.GcFull h = tt
+-- the class of a command that fits is there
+fits_class : (vars : List ℕ) (header : Header) (frames : List Bool) (what : Cmd) → frame.fits vars (length header.classes.classes) (length header.fields) frames what ≡ true → HasClass header what
+fits_class vars header frames (cmd.Gc what) h = tt
+fits_class vars header frames (cmd.Lane lane what) h = go what (and_true (nat_lt lane (length frames)) _ h).1
+  where
+    go : (what : LaneCmd) → fits_lane (slice_index vars lane) (length header.classes.classes) (length header.fields) (slice_index_or frames lane false) what ≡ true → LaneClass header what
+    go (lane_cmd.New var class) h =
+        let last : nat_lt class.0 (length header.classes.classes) ≡ true = (and_true (slice_index_or frames lane false && nat_lt var (slice_index vars lane)) (nat_lt class.0 (length header.classes.classes)) h).1 in
+        grind (arith, nat_tests, last)
+    go what h = tt
 
 framed_classes : (vars : List ℕ) (header : Header) (frames : List Bool) (lines : List Line) → are_framed vars (length header.classes.classes) (length header.fields) frames lines ≡ true → AllByRecursion (λ l. HasClass header l.cmd) lines
 unfolding are_framed
 framed_classes vars header frames [] h = tt
 framed_classes vars header frames (l ∷ lines) h =
-    let parts = and_true (frame.fits vars (length header.classes.classes) (length header.fields) frames l.who l.cmd) _ h in
-    (fits_class vars header frames l.who l.cmd parts.0, framed_classes vars header (frame.frames_after frames l.who l.cmd) lines parts.1)
+    let parts = and_true (frame.fits vars (length header.classes.classes) (length header.fields) frames l.cmd) _ h in
+    (fits_class vars header frames l.cmd parts.0, framed_classes vars header (frame.frames_after frames l.cmd) lines parts.1)
 
 outcome_played : OneText → (z : Sizes) (budget : ℕ) (limits : Limits) (script : Script) (history : List Entry) (had has : Option (List ℕ)) → IsPlayable limits script → Played z budget (header_of script) script.lines history had has → Gained had has (outcome z (header_of script) script.lines)
 outcome_played law z budget limits script history had has can h =
     subst (Gained had has)
-    (law z budget (header_of script) script.lines h.pieces h.last can.classes can.at_once (framed_classes script.vars (header_of script) _ script.lines can.framed) (subst (Legal z) h.cut h.legal) h.plays)
+    (law z budget (header_of script) script.lines h.pieces h.replies h.last can.classes can.at_once (framed_classes script.vars (header_of script) _ script.lines can.framed) (subst (Legal z) h.cut h.legal) h.plays)
     h.put
 
 pub outcome_of_run : OneText → (w : Words) (how : Status) (left : Option (List ℕ)) (script : Script) (r : Option Run) (had has : Option (List ℕ)) (count : ℕ) → IsPlayable (limits_in w.shape) script → IsScript (limits_in w.shape) left script → HasRun how r → PlayedAs w how script r had has count → OnDone how (WritesOutcome w.shape left had has)

@@ -5,7 +5,7 @@ use Rattle.world_model.specs.Sizes.{Sizes}
 use Rattle.world_model.specs.State.{State}
 use Rattle.world_model.specs.Next.{next, run}
 use Rattle.world_model.specs.Histories.{May, LegalFrom}
-use Rattle.world_model.specs.Calls.{by}
+use Rattle.world_model.specs.Calls.{by, Slice, by_marker}
 use Rattle.world_play.specs.Types.{Pass, Lane, Marker, Collector, Act, Entry}
 use Rattle.world_play.specs.Types.act
 use Rattle.world_play.specs.Types.begin
@@ -17,18 +17,18 @@ IsNoLane (Lane lane) = ⊥
 IsNoLane (Marker marker) = Unit {0}
 IsNoLane Collector = Unit {0}
 
-by_marker : (z : Sizes) (s : State) (marker : ℕ) (a : Act) → May z s (record { pass = Marker marker; act = a }) → (next s (record { pass = Marker marker; act = a })).world.kinds ≡ s.world.kinds
-by_marker z s marker (act.Make kinds first) step = absurd step.may
-by_marker z s marker (act.BeginGc begin.Started) step = refl
-by_marker z s marker (act.BeginGc (begin.Running phase)) step = refl
-by_marker z s marker (act.BeginGc (begin.Purging left)) step = refl
-by_marker z s marker (act.BeginGc (begin.Frames n)) step = refl
-by_marker z s marker (act.CommitGc commit.Done) step = refl
-by_marker z s marker (act.CommitGc (commit.NotMarking phase)) step = refl
-by_marker z s marker (act.CommitGc (commit.Unfinished word bits)) step = refl
-by_marker z s marker (act.CommitGc commit.Stores) step = refl
-by_marker z s marker (act.CommitGc (commit.Frames n)) step = refl
-by_marker z s marker a step = refl
+by_one_marker : (z : Sizes) (s : State) (marker : ℕ) (a : Act) → May z s (record { pass = Marker marker; act = a }) → (next s (record { pass = Marker marker; act = a })).world.kinds ≡ s.world.kinds
+by_one_marker z s marker (act.Make kinds first) step = absurd step.may
+by_one_marker z s marker (act.BeginGc begin.Started) step = refl
+by_one_marker z s marker (act.BeginGc (begin.Running phase)) step = refl
+by_one_marker z s marker (act.BeginGc (begin.Purging left)) step = refl
+by_one_marker z s marker (act.BeginGc (begin.Frames n)) step = refl
+by_one_marker z s marker (act.CommitGc commit.Done) step = refl
+by_one_marker z s marker (act.CommitGc (commit.NotMarking phase)) step = refl
+by_one_marker z s marker (act.CommitGc (commit.Unfinished word bits)) step = refl
+by_one_marker z s marker (act.CommitGc commit.Stores) step = refl
+by_one_marker z s marker (act.CommitGc (commit.Frames n)) step = refl
+by_one_marker z s marker a step = refl
 
 by_collector : (z : Sizes) (s : State) (a : Act) → May z s (record { pass = Collector; act = a }) → (next s (record { pass = Collector; act = a })).world.kinds ≡ s.world.kinds
 by_collector z s (act.Make kinds first) step = absurd step.may
@@ -45,7 +45,7 @@ by_collector z s a step = refl
 
 one_kept : (z : Sizes) (s : State) (p : Pass) (a : Act) → IsNoLane p → May z s (record { pass = p; act = a }) → (next s (record { pass = p; act = a })).world.kinds ≡ s.world.kinds
 one_kept z s (Lane lane) a none step = absurd none
-one_kept z s (Marker marker) a none step = by_marker z s marker a step
+one_kept z s (Marker marker) a none step = by_one_marker z s marker a step
 one_kept z s Collector a none step = by_collector z s a step
 
 pub kinds_kept : (z : Sizes) (s : State) (entries : List Entry) → AllByRecursion (λ (e : Entry). IsNoLane e.pass) entries → LegalFrom z s entries → (run s entries).world.kinds ≡ s.world.kinds
@@ -64,3 +64,7 @@ no_lane_append (x ∷ xs) ys a b = (a.0, no_lane_append xs ys a.1 b)
 pub slices_no_lane : (p : Pass) (calls : List (List Act)) → IsNoLane p → AllByRecursion (λ (e : Entry). IsNoLane e.pass) (flat_map (by p) calls)
 slices_no_lane p [] none = tt
 slices_no_lane p (acts ∷ calls) none = no_lane_append (by p acts) (flat_map (by p) calls) (by_no_lane p acts none) (slices_no_lane p calls none)
+
+pub marks_no_lane : (slices : List Slice) → AllByRecursion (λ (e : Entry). IsNoLane e.pass) (flat_map by_marker slices)
+marks_no_lane [] = tt
+marks_no_lane (slice ∷ slices) = no_lane_append (by_marker slice) (flat_map by_marker slices) (by_no_lane (Marker slice.marker) slice.acts tt) (marks_no_lane slices)

@@ -8,7 +8,7 @@ use Rattle.world_model.specs.World.{World, left_in, left_of}
 use Rattle.world_model.specs.State.{State, beginning}
 use Rattle.world_model.specs.Next.{run}
 use Rattle.world_model.specs.Histories.{LegalFrom, state_of, after}
-use Rattle.world_model.specs.Calls.{by, PurgesAlone, Appends}
+use Rattle.world_model.specs.Calls.{by, CallOf, PurgeEntries, Appends}
 use Rattle.world_model.specs.Hooks.{ReadyTest, Meets, MeetTest, SameTest, class_of}
 use Rattle.world_model.proofs.Joins.{run-append, by-append, legal_split}
 use Rattle.world_model.proofs.Solo.{state_after, legal_call}
@@ -16,7 +16,7 @@ use Rattle.world_play.specs.Header.{Header}
 use Rattle.world_play.specs.Types.{Name, ClassId, Phase, Idle, Purged, Collector, Act, Entry}
 use Rattle.world_play.specs.Types.act
 use Rattle.world_play.specs.Types.purge
-use Rattle.world_play.specs.Plays.{is_ready, AnswersBy, PurgesAll}
+use Rattle.world_play.specs.Collections.{is_ready, AnswersBy, PurgesAll}
 use Rattle.world_play.specs.Stages.{HasSwept, Destroys}
 use Rattle.world_play.proofs.Destroying.{OnlyRemovals, parts_keep}
 
@@ -25,16 +25,16 @@ unfoldable pub PurgesSome : ℕ → Header → ℕ → State → List (List Act)
 PurgesSome budget header bound s [] rest = rest ≡ bound
 PurgesSome budget header bound s (acts ∷ more) rest =
     (0 < left_of s.world) × (0 < bound)
-    × ((steps : ℕ) × (left : ℕ) × PurgesAlone (min budget bound) (purge.Ran steps left) acts × AllByRecursion (AnswersBy header s.world) acts × PurgesSome budget header (bound - steps) (run s (by Collector acts)) more rest)
+    × ((steps : ℕ) × (left : ℕ) × CallOf s Collector (act.PurgeGc (min budget bound) (purge.Ran steps left)) acts × AllByRecursion (AnswersBy header s.world) acts × PurgesSome budget header (bound - steps) (run s (by Collector acts)) more rest)
 
 some_more : (budget : ℕ) (header : Header) (bound : ℕ) (s : State) (purges : List (List Act)) (rest steps left : ℕ) (acts : List Act) → PurgesSome budget header bound s purges rest
-    → 0 < left_of (run s (flat_map (by Collector) purges)).world → 0 < rest → PurgesAlone (min budget rest) (purge.Ran steps left) acts
+    → 0 < left_of (run s (flat_map (by Collector) purges)).world → 0 < rest → PurgeEntries (min budget rest) (purge.Ran steps left) acts
     → AllByRecursion (AnswersBy header (run s (flat_map (by Collector) purges)).world) acts → PurgesSome budget header bound s (purges ++ acts ∷ []) (rest - steps)
 unfolding PurgesSome
 some_more budget header bound s [] rest steps left acts was some more call says = (
   some,
   subst (λ (k : ℕ). 0 < k) was more,
-  (steps, left, subst (λ (k : ℕ). PurgesAlone (min budget k) (purge.Ran steps left) acts) was call, says, ap (λ (k : ℕ). k - steps) was),
+  (steps, left, (subst (λ (k : ℕ). PurgeEntries (min budget k) (purge.Ran steps left) acts) was call, tt), says, ap (λ (k : ℕ). k - steps) was),
 )
 some_more budget header bound s (first ∷ purges) rest steps left acts (a, b, (n, m, one, answers, others)) some more call says =
     let t : State = run s (by Collector first) in
@@ -74,10 +74,10 @@ module _ (z : Sizes) (mid new : List Entry) (budget : ℕ) (reply : Purged) (h :
   last = act.PurgeGc budget reply ∷ []
 
   abbrev parts : List Act
-  parts = h.call.parts
+  parts = h.call.0.parts
 
   entries : by Collector h.acts ≡ by Collector parts ++ by Collector last
-  entries = ap (by Collector) h.call.are ∙ by-append Collector parts last
+  entries = ap (by Collector) h.call.0.are ∙ by-append Collector parts last
 
   halves : LegalFrom z (state_of mid) (by Collector parts) × LegalFrom z (run (state_of mid) (by Collector parts)) (by Collector last)
   halves = legal_split z (state_of mid) (by Collector parts) (by Collector last) (subst (LegalFrom z (state_of mid)) entries (legal_call z mid new Collector (act.PurgeGc budget reply) h))
@@ -87,7 +87,7 @@ module _ (z : Sizes) (mid new : List Entry) (budget : ℕ) (reply : Purged) (h :
   same_world = ap (λ (s : State). s.world) (state_after z mid new Collector (act.PurgeGc budget reply) h ∙ ap (run (state_of mid)) entries ∙ run-append (state_of mid) (by Collector parts) (by Collector last))
 
   kept_world : OnlyRemovals (after mid) (run (state_of mid) (by Collector parts)).world
-  kept_world = parts_keep (state_of mid) parts h.call.only
+  kept_world = parts_keep (state_of mid) parts h.call.0.only
 
 purge_leaves : (z : Sizes) (mid new : List Entry) (budget steps left : ℕ) → Appends z mid new Collector (act.PurgeGc budget (purge.Ran steps left)) → PurgeLeaves z mid new budget steps left
 purge_leaves z mid new budget steps left h =
@@ -138,7 +138,7 @@ destroys_more z budget header old mid new bound rest b steps left e on h some mo
       record {
         purges = on.purges ++ h.acts ∷ [];
         some = some_more budget header bound (state_of old) on.purges rest steps left h.acts on.some (subst (λ (s : State). 0 < left_of s.world) state some) more
-            (subst (λ (k : ℕ). PurgesAlone k (purge.Ran steps left) h.acts) e h.call) (subst (λ (s : State). AllByRecursion (AnswersBy header s.world) h.acts) state says);
+            (subst (λ (k : ℕ). PurgeEntries k (purge.Ran steps left) h.acts) e h.call.0) (subst (λ (s : State). AllByRecursion (AnswersBy header s.world) h.acts) state says);
         grown = h.grown ∙ ap (λ (es : List Entry). es ++ by Collector h.acts) on.grown ∙ append_assoc old (flat_map (by Collector) on.purges) (by Collector h.acts)
             ∙ ap (λ (es : List Entry). old ++ es) (ap (λ (es : List Entry). flat_map (by Collector) on.purges ++ es) (sym (append-nil (by Collector h.acts))) ∙ sym (flat_map-append (by Collector) on.purges (h.acts ∷ [])));
         found = ap (λ (w : World). w.found) leaves.world ∙ on.found;

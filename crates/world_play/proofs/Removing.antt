@@ -11,7 +11,7 @@ use Rattle.world_model.specs.State.{State, Marks, is_marked, white_units}
 use Rattle.world_model.specs.CollectorSteps.{IsIdle, Sweeps, SweepMay}
 use Rattle.world_model.specs.Next.{next, run, committed, with_found, settled}
 use Rattle.world_model.specs.Histories.{state_of, after, Legal, LegalFrom}
-use Rattle.world_model.specs.Calls.{by}
+use Rattle.world_model.specs.Calls.{by, by_marker}
 use Rattle.world_model.specs.Laws.{started, done, KeepsReached}
 use Rattle.world_model.proofs.ListFacts.{and_true, or_true, Among, contains_among, among_contains, filter_among, among_filter_test, among_test, test_among}
 use Rattle.world_model.proofs.NameFacts.{same_name_true, has_among, among_has}
@@ -24,7 +24,7 @@ use Rattle.world_play.specs.Types.{Name, Kind, Phase, Idle, Marking, Swept, Swee
 use Rattle.world_play.specs.Types.act
 use Rattle.world_play.specs.Types.begin
 use Rattle.world_play.specs.Types.sweep
-use Rattle.world_play.specs.Plays.{SweepsMore, SweepsAll, Collected, first_begin}
+use Rattle.world_play.specs.Collections.{SweepsMore, SweepsAll, Collected}
 use Rattle.world_play.specs.Outcome.{Scene, is_reached, unreached, collected}
 use Rattle.world_model.specs.Reached.{TellsRoots}
 use Rattle.world_model.proofs.Reached.{reached_told, told_reached}
@@ -207,8 +207,7 @@ finds_all z w s budget sweeps h legal all =
 -- ---- a whole collection
 
 -- what a whole collection comes upon, finds and leaves
-pub record HasCollected (z : Sizes) (w : World) (piece : List Entry) (new : World) : Type 0 where
-  pub begun : first_begin piece ≡ begin.Started
+pub record HasCollected (z : Sizes) (w : World) (new : World) : Type 0 where
   pub closed : w.opened ≡ []
   pub gone : all_different (unreached z (scene_of w)) ≡ true
   pub found : all_different new.found ≡ true
@@ -228,10 +227,10 @@ module _ (z : Sizes) (budget : ℕ) (header : Header) (old piece : List Entry) (
   begins = by Collector h.begins
 
   abbrev notes : List Entry
-  notes = by Collector (map act.Kept h.begun.of)
+  notes = by Collector (map act.Kept h.begun.0.of)
 
   abbrev marks : List Entry
-  marks = flat_map (by (Marker 0)) h.slices
+  marks = flat_map by_marker h.slices
 
   -- the entries before the commit, and those with it
   abbrev front : List Entry
@@ -244,7 +243,7 @@ module _ (z : Sizes) (budget : ℕ) (header : Header) (old piece : List Entry) (
   to_commit = run s front
 
   front_is : front ≡ started ∷ (notes ++ marks)
-  front_is = ap (λ (acts : List Act). by Collector acts ++ marks) h.begun.are
+  front_is = ap (λ (acts : List Act). by Collector acts ++ marks) h.begun.0.are
 
   -- the entries of the purges
   abbrev ends : List Entry
@@ -267,7 +266,7 @@ module _ (z : Sizes) (budget : ℕ) (header : Header) (old piece : List Entry) (
   committing =
       let marking : State = run (next s started) (notes ++ marks) in
       let same : to_commit ≡ marking = ap (run s) front_is in
-      let leaves = marks_leave (next s started) (notes ++ marks) (all_append notes marks (keeps_mark h.begun.of) (slices_mark _ budget h.slices h.marked)) in
+      let leaves = marks_leave (next s started) (notes ++ marks) (all_append notes marks (keeps_mark h.begun.0.of) (slices_mark _ budget h.slices h.marked.idle)) in
       let closed : marking.world.opened ≡ w.opened = ap (λ (t : State). t.world.opened) (sym same) ∙ legal_front.1.0.may.closed ∙ sym start_may.1 in
       ap (λ (t : State). t.world) same ∙ leaves ∙ ap (λ (opened : List Pass). record w { phase = Marking; opened = opened }) closed
 
@@ -286,7 +285,7 @@ module _ (z : Sizes) (budget : ℕ) (header : Header) (old piece : List Entry) (
       let joined : Legal z (old ++ half) = legal_join z _ old half before legal_half.0 in
       subst (λ (v : World). KeepsReached (graph w) (graph v)) world
       (collect_is_exact_holds z old (old ++ half) budget
-      (record { begins = h.begins; slices = h.slices; begun = h.begun; marked = h.marked; grown = grown; legal = joined }))
+      (record { begins = h.begins; slices = h.slices; begun = h.begun; marked = h.marked.idle; grown = grown; legal = joined }))
 
   kept_scene : (scene_of kept ≡ collected z (scene_of w)) × (names_of kept.removals ≡ unreached z (scene_of w))
   kept_scene = committed_scene z to_commit.marks w calm keeps_reached
@@ -334,9 +333,8 @@ module _ (z : Sizes) (budget : ℕ) (header : Header) (old piece : List Entry) (
       (record { different = ap all_different names_gone ∙ gone_different; agreed = λ n e. absurd (none_some swept.collector.agreed n none_agreed e) })
       none_agreed (ap (λ (v : World). v.phase) has_found.world) few
 
-  pub has_collected : HasCollected z w piece (run s piece).world
+  pub has_collected : HasCollected z w (run s piece).world
   has_collected = record {
-    begun = ap first_begin h.are ∙ ap (λ (xs : List Entry). first_begin (xs ++ ends)) h.found ∙ ap (λ (xs : List Entry). first_begin (((xs ++ done ∷ []) ++ by Collector h.sweeps) ++ ends)) front_is;
     closed = start_may.1;
     gone = gone_different;
     found = ap (λ (v : World). all_different v.found) ended ∙ has_found.different;

@@ -1,62 +1,110 @@
--- What the calls of a lane leave of the frames.
-use Rattle.std.proofs.Common.{◌≡◌, ℕ, zero, suc, length, ◌==◌, ◌<◌, ◌&&◌, map, get_or, Bool, true, false, not, ◌||◌, cond, List, [], ◌∷◌, ◌++◌, filter, refl, sym, ap, ◌∙◌, subst, arith, inl, inr, Option, Some, None}
-use Rattle.std.specs.Prelude.{nat_lt, slice_index, slice_get}
+-- What a command of a lane needs, and what it leaves.
+use Rattle.std.proofs.Common.{◌≡◌, ℕ, ◌-◌, zero, suc, length, ◌==◌, ◌<◌, ◌&&◌, map, get_or, Bool, true, false, not, ◌||◌, cond, List, [], ◌∷◌, ◌++◌, filter, refl, sym, ap, ◌∙◌, subst, arith, inl, inr, ◌⊎◌, Option, Some, None, Result, Ok, Err, option_map, IfSome, IsTrue}
+use Rattle.std.specs.Prelude.{nat_lt, slice_index, slice_get, option_and_then}
 use Rattle.std.specs.List.{list_any}
 use Rattle.std.proofs.lemmas.Bool.Decides.{nat_tests}
 use Rattle.world_model.specs.Sizes.{Sizes}
 use Rattle.world_model.specs.NameLists.{same_pass, set_at}
-use Rattle.world_model.specs.State.{State}
+use Rattle.world_model.specs.World.{World, kind_of}
+use Rattle.world_model.specs.State.{State, beginning}
 use Rattle.world_model.specs.Next.{run}
 use Rattle.world_model.specs.Histories.{state_of, after}
-use Rattle.world_model.specs.Calls.{by, CallOf, StoresAlone, Appends}
-use Rattle.world_model.specs.Engines.{act_of_refusal}
-use Rattle.world_model.proofs.Solo.{state_after, state_after_one}
+use Rattle.world_model.specs.Calls.{by, CallOf, StoreEntries}
+use Rattle.world_model.specs.Engines.{Holdings, act_of_refusal}
+use Rattle.world_model.proofs.Joins.{run-append}
+use Rattle.world_model.proofs.ListFacts.{and_true}
 use Rattle.class_schema.specs.Class.{Class}
+use Rattle.class_schema.specs.Table as table
+use Rattle.class_schema.specs.declared.field.FieldKind.{FieldKind}
+use Rattle.level_script.specs.Frames.{fits_lane, fits_target}
 use Rattle.world_play.specs.Header.{Header}
 use Rattle.world_play.specs.Text.{HasText}
-use Rattle.world_play.specs.Types.{Name, Ref, ClassId, Kind, CreateErr, Reply, Pass, Lane, Marker, Collector, Phase, Act, Entry}
+use Rattle.world_play.specs.Types.{Name, Ref, ClassId, Kind, CreateErr, Reply, Pass, Lane, Marker, Collector, Act, Entry, Cmd, LaneCmd, Spot, Field}
 use Rattle.world_play.specs.Types.act
 use Rattle.world_play.specs.Types.create
-use Rattle.world_play.specs.Plays.{OneCall, SetsObject, closing, lane_reply, object_of}
-use Rattle.world_play.specs.Turns.{frames_of}
-use Rattle.world_play.specs.Variables.{numbers_of}
-use Rattle.world_play.specs.declared.variables.LaneVariables.{LaneVariables}
-use Rattle.world_model.proofs.ListFacts.{and_true}
+use Rattle.world_play.specs.Types.reply
+use Rattle.world_play.specs.Types.cmd
+use Rattle.world_play.specs.Types.lane_cmd
+use Rattle.world_play.specs.Bindings.{Bindings}
+use Rattle.world_play.specs.Spots.{Kinds, Element, is_int, field_of, kind_at, element_at, spot_at, may_refer, target_at, value_of, set_spot, get_spot, int_spot, told_kind, told_object}
+use Rattle.class_schema.specs.Layout.{is_ref}
+use Rattle.world_play.specs.Lanes.{Says, OnObject, OnElement, no_room, Makes, object_of, LaneTurn}
+use Rattle.world_play.specs.Laws.{LaneClass, HasClass}
+use Rattle.world_play.specs.Plays.{frames_by, fits}
+use Rattle.world_play.specs.Turns.{frames_of, AreMade, IsReady, LaneDid}
+use Rattle.world_play.specs.Variables.{Standing, HasVariable}
+
+-- ---- what a command that fits has
+
+and_first : (a b : Bool) → (a && b) ≡ true → a ≡ true
+and_first true b h = refl
+and_first false b h = absurd cc
+
+below : (m n : ℕ) → nat_lt m n ≡ true → m < n
+below m n t = grind (arith, nat_tests, t)
+
+-- the lane of a command that fits is there
+pub fit_lane : (lane lanes count : ℕ) (b : Bool) → count ≡ lanes → (nat_lt lane lanes && b) ≡ true → lane < count
+fit_lane lane lanes count b is h = let t : nat_lt lane lanes ≡ true = and_first (nat_lt lane lanes) b h in grind (arith, nat_tests, t, is)
+
+-- a variable of such a lane is there
+pub has_variable : (v : Standing) (lane lanes var : ℕ) (b : Bool) → length v.counts ≡ lanes → (nat_lt lane lanes && b) ≡ true → nat_lt var (slice_index v.counts lane) ≡ true → HasVariable v lane var
+has_variable v lane lanes var b count h t = record { lane_there = fit_lane lane lanes (length v.counts) b count h; var_there = below var (slice_index v.counts lane) t }
+
+-- the second of three tests
+pub second : (a b c : Bool) → ((a && b) && c) ≡ true → b ≡ true
+second a b c h = (and_true a b (and_first (a && b) c h)).1
+
+-- the class of a command that fits is there
+fit_class : (lanes : ℕ) (vars : List ℕ) (header : Header) (opened : ℕ → Bool) (lane : ℕ) (what : LaneCmd) → fits lanes vars header opened (cmd.Lane lane what) ≡ true → LaneClass header what
+fit_class lanes vars header opened lane (lane_cmd.New var class) h =
+    let parts = and_true (nat_lt lane lanes) _ h in
+    below class.0 (length header.classes.classes) (and_true (opened lane && nat_lt var (slice_index vars lane)) (nat_lt class.0 (length header.classes.classes)) parts.1).1
+fit_class lanes vars header opened lane what h = tt
+
+pub fits_class : (lanes : ℕ) (vars : List ℕ) (header : Header) (opened : ℕ → Bool) (what : Cmd) → fits lanes vars header opened what ≡ true → HasClass header what
+fits_class lanes vars header opened (cmd.Lane lane what) h = fit_class lanes vars header opened lane what h
+fits_class lanes vars header opened (cmd.Gc what) h = tt
+
+-- ---- the kinds of the table
+
+-- the objects that were made stay of the kinds of the table where none is made
+pub made_on : (header : Header) (old new : World) → new.kinds ≡ old.kinds → AreMade header old → AreMade header new
+made_on header old new same made = record {
+  class = λ n k e. made.class n k (ap (λ (kinds : ℕ → List Kind). slice_get (kinds n.lane) (n.count - 1)) (sym same) ∙ e);
+  kind = λ n k e. made.kind n k (ap (λ (kinds : ℕ → List Kind). slice_get (kinds n.lane) (n.count - 1)) (sym same) ∙ e);
+}
+
+-- an element of a list with one more is an element of the list, or the last
+last_or : {A : Type 0} (xs : List A) (x k : A) (i : ℕ) → slice_get (xs ++ x ∷ []) i ≡ Some k → (slice_get xs i ≡ Some k) ⊎ (k ≡ x)
+last_or [] x k zero e = inr (let same : x ≡ k = cc in sym same)
+last_or [] x k (suc i) e = absurd cc
+last_or (y ∷ xs) x k zero e = inl e
+last_or (y ∷ xs) x k (suc i) e = last_or xs x k i e
+
+-- so they do where one more of such a kind is made
+pub made_more : (header : Header) (old new : World) (lane : ℕ) (kind : Kind) → new.kinds ≡ set_at old.kinds lane (old.kinds lane ++ kind ∷ []) → kind.class.0 < length header.classes.classes → kind ≡ table.kind_of header.classes kind.class → AreMade header old → AreMade header new
+made_more header old new lane kind are small is made = record {
+  class = λ n k e. each (λ (k : Kind). k.class.0 < length header.classes.classes) small (made.class) n k e;
+  kind = λ n k e. each (λ (k : Kind). k ≡ table.kind_of header.classes k.class) is (made.kind) n k e;
+}
+  where
+    each : (P : Kind → Type 0) → P kind → ((n : Name) (k : Kind) → kind_of old n ≡ Some k → P k) → (n : Name) (k : Kind) → kind_of new n ≡ Some k → P k
+    each P one others n k e = go (n.lane == lane) refl (ap (λ (kinds : ℕ → List Kind). slice_get (kinds n.lane) (n.count - 1)) (sym are) ∙ e)
+      where
+        from : (slice_get (old.kinds lane) (n.count - 1) ≡ Some k) ⊎ (k ≡ kind) → n.lane ≡ lane → P k
+        from (inl before) same = others n k (ap (λ (l : ℕ). slice_get (old.kinds l) (n.count - 1)) same ∙ before)
+        from (inr last) same = subst P (sym last) one
+
+        go : (b : Bool) → (n.lane == lane) ≡ b → slice_get (cond b (old.kinds lane ++ kind ∷ []) (old.kinds n.lane)) (n.count - 1) ≡ Some k → P k
+        go true t f = from (last_or (old.kinds lane) kind k (n.count - 1) f) (grind (arith, nat_tests, t))
+        go false t f = others n k f
+
+-- ---- what a piece leaves
 
 or_cond : (b x : Bool) → (b || x) ≡ cond b true x
 or_cond true x = refl
 or_cond false x = refl
-
-pub open_frames : (z : Sizes) (old new : List Entry) (lane : ℕ) (phase : Phase) → Appends z old new (Lane lane) (act.FrameOpen phase) → frames_of (after new) ≡ set_at (frames_of (after old)) lane true
-open_frames z old new lane phase h = ap (λ s. frames_of s.world) (state_after_one z old new (Lane lane) (act.FrameOpen phase) h h.call) ∙ (λ i j. or_cond (j == lane) (frames_of (after old) j) i)
-
--- what a call of a lane leaves of the kinds
-pub open_kinds : (z : Sizes) (old new : List Entry) (lane : ℕ) (phase : Phase) → Appends z old new (Lane lane) (act.FrameOpen phase) → (after new).kinds ≡ (after old).kinds
-open_kinds z old new lane phase h = ap (λ s. s.world.kinds) (state_after_one z old new (Lane lane) (act.FrameOpen phase) h h.call)
-
-pub close_kinds : (z : Sizes) (old new : List Entry) (lane : ℕ) → Appends z old new (Lane lane) act.FrameClose → (after new).kinds ≡ (after old).kinds
-close_kinds z old new lane h = ap (λ s. s.world.kinds) (state_after_one z old new (Lane lane) act.FrameClose h h.call)
-
-pub root_kinds : (z : Sizes) (old new : List Entry) (lane : ℕ) (at : Name) (on was : Bool) → Appends z old new (Lane lane) (act.Root at on was) → (after new).kinds ≡ (after old).kinds
-root_kinds z old new lane at on was h = go h.call
-  where
-    go : StoresAlone (act.Root at on was) h.acts → (after new).kinds ≡ (after old).kinds
-    go (inl one) = ap (λ s. s.world.kinds) (state_after_one z old new (Lane lane) (act.Root at on was) h one)
-    go (inr noted) = ap (λ s. s.world.kinds) (state_after z old new (Lane lane) (act.Root at on was) h) ∙ ap (λ (acts : List Act). (run (state_of old) (by (Lane lane) acts)).world.kinds) noted.1
-
-pub write_kinds : (z : Sizes) (old new : List Entry) (lane : ℕ) (at : Name) (slot : ℕ) (to was : Option Name) → Appends z old new (Lane lane) (act.WriteRef at slot to was) → (after new).kinds ≡ (after old).kinds
-write_kinds z old new lane at slot to was h = go h.call
-  where
-    go : StoresAlone (act.WriteRef at slot to was) h.acts → (after new).kinds ≡ (after old).kinds
-    go (inl one) = ap (λ s. s.world.kinds) (state_after_one z old new (Lane lane) (act.WriteRef at slot to was) h one)
-    go (inr noted) = ap (λ s. s.world.kinds) (state_after z old new (Lane lane) (act.WriteRef at slot to was) h) ∙ ap (λ (acts : List Act). (run (state_of old) (by (Lane lane) acts)).world.kinds) noted.1
-
-pub make_kinds : (z : Sizes) (old new : List Entry) (lane : ℕ) (kinds : List Kind) (first : ℕ) → Appends z old new (Lane lane) (act.Make kinds first) → (after new).kinds ≡ set_at (after old).kinds lane ((after old).kinds lane ++ kinds)
-make_kinds z old new lane kinds first h = ap (λ s. s.world.kinds) (state_after_one z old new (Lane lane) (act.Make kinds first) h h.call)
-
-pub refuse_kinds : (z : Sizes) (old new : List Entry) (lane asked : ℕ) (why : CreateErr) → Appends z old new (Lane lane) (act_of_refusal asked why) → (after new).kinds ≡ (after old).kinds
-refuse_kinds z old new lane asked (create.Full free) h = ap (λ s. s.world.kinds) (state_after_one z old new (Lane lane) _ h h.call)
-refuse_kinds z old new lane asked (create.NamesSpent left) h = ap (λ s. s.world.kinds) (state_after_one z old new (Lane lane) _ h h.call)
 
 -- the frames that are open when one was closed
 one_closed : (opened : List Pass) (lane j : ℕ) → list_any (same_pass (Lane j)) (filter (λ q. not (same_pass (Lane lane) q)) opened) ≡ cond (j == lane) false (list_any (same_pass (Lane j)) opened)
@@ -80,100 +128,179 @@ one_closed (Lane k ∷ opened) lane j = go (lane == k) refl (j == lane) refl (j 
 one_closed (Marker k ∷ opened) lane j = one_closed opened lane j
 one_closed (Collector ∷ opened) lane j = one_closed opened lane j
 
-pub close_frames : (z : Sizes) (old new : List Entry) (lane : ℕ) → Appends z old new (Lane lane) act.FrameClose → frames_of (after new) ≡ set_at (frames_of (after old)) lane false
-close_frames z old new lane h = ap (λ s. frames_of s.world) (state_after_one z old new (Lane lane) act.FrameClose h h.call) ∙ (λ i j. one_closed (after old).opened lane j i)
+-- what a command of a lane leaves
+pub record Leaves (header : Header) (s : State) (lane : ℕ) (what : LaneCmd) (piece : List Entry) (r : Reply) : Type 0 where
+  pub frames : frames_of (run s piece).world ≡ frames_by (frames_of s.world) (cmd.Lane lane what)
+  pub made : AreMade header (run s piece).world
+  pub told : HasText header.classes.classes r
 
-pub make_frames : (z : Sizes) (old new : List Entry) (lane : ℕ) (kinds : List Kind) (first : ℕ) → Appends z old new (Lane lane) (act.Make kinds first) → frames_of (after new) ≡ frames_of (after old)
-make_frames z old new lane kinds first h = ap (λ s. frames_of s.world) (state_after_one z old new (Lane lane) (act.Make kinds first) h h.call)
+-- entries that leave the frames and the kinds
+record Stays (s : State) (piece : List Entry) : Type 0 where
+  frames : frames_of (run s piece).world ≡ frames_of s.world
+  kinds : (run s piece).world.kinds ≡ s.world.kinds
 
-pub refuse_frames : (z : Sizes) (old new : List Entry) (lane asked : ℕ) (why : CreateErr) → Appends z old new (Lane lane) (act_of_refusal asked why) → frames_of (after new) ≡ frames_of (after old)
-refuse_frames z old new lane asked (create.Full free) h = ap (λ s. frames_of s.world) (state_after_one z old new (Lane lane) _ h h.call)
-refuse_frames z old new lane asked (create.NamesSpent left) h = ap (λ s. frames_of s.world) (state_after_one z old new (Lane lane) _ h h.call)
+-- a call of one entry
+alone : (P : List Entry → Type 0) (lane : ℕ) (a : Act) (piece : List Entry) (acts : List Act) → acts ≡ a ∷ [] → piece ≡ by (Lane lane) acts → P (by (Lane lane) (a ∷ [])) → P piece
+alone P lane a piece acts one is p = subst P (sym (is ∙ ap (by (Lane lane)) one)) p
 
-pub root_frames : (z : Sizes) (old new : List Entry) (lane : ℕ) (at : Name) (on was : Bool) → Appends z old new (Lane lane) (act.Root at on was) → frames_of (after new) ≡ frames_of (after old)
-root_frames z old new lane at on was h = go h.call
+-- a store, perhaps after a note
+stored : (s : State) (lane : ℕ) (a : Act) (piece : List Entry) (acts : List Act) → StoreEntries a acts → piece ≡ by (Lane lane) acts → Stays s (by (Lane lane) (a ∷ [])) → ((of : Name) → Stays s (by (Lane lane) (act.Kept of ∷ a ∷ []))) → Stays s piece
+stored s lane a piece acts (inl one) is first noted = alone (Stays s) lane a piece acts one is first
+stored s lane a piece acts (inr note) is first noted = subst (Stays s) (sym (is ∙ ap (by (Lane lane)) note.1)) (noted note.0)
+
+-- no entry
+quiet : (s : State) (piece : List Entry) → piece ≡ [] → Stays s piece
+quiet s piece none = subst (Stays s) (sym none) (record { frames = refl; kinds = refl })
+
+-- a reply that tells no class
+plain : (classes : List Class) (r what : Reply) → HasText classes what → r ≡ what → HasText classes r
+plain classes r what told is = subst (HasText classes) (sym is) told
+
+-- what holds of these four replies holds of each refusal of a spot
+module _ (P : Reply → Type 0) (lane : ℕ) (no_object : P (reply.NoObject lane)) (no_field : P (reply.NoField lane)) (wrong_kind : P (reply.WrongKind lane)) (no_element : P (reply.NoElement lane)) where
+  abbrev pub Refused : Result Element Reply → Type 0
+  Refused (Ok e) = Unit {0}
+  Refused (Err r) = P r
+
+  either : (b : Bool) (x y : Result Element Reply) → Refused x → Refused y → Refused (cond b x y)
+  either true x y p q = p
+  either false x y p q = q
+
+  element_refused : (at : Name) (wanted : FieldKind → Bool) (f : Option Field) (element : ℕ) → Refused (element_at lane at wanted f element)
+  element_refused at wanted None element = no_field
+  element_refused at wanted (Some f) element = either (wanted f.kind) _ _ (either (nat_lt element f.count) _ _ tt no_element) wrong_kind
+
+  pub spot_refused : (h : Header) (kinds : Kinds) (wanted : FieldKind → Bool) (at : Option Name) (spot : Spot) → Refused (spot_at h kinds lane wanted at spot)
+  spot_refused h kinds wanted None spot = no_object
+  spot_refused h kinds wanted (Some at) spot = element_refused at wanted (field_of h (kind_at kinds at) (slice_get h.fields spot.field)) spot.element
+
+  -- and of each of a store, where it holds of the fifth
+  pub target_refused : (wrong_class : P (reply.WrongClass lane)) (h : Header) (kinds : Kinds) (to : Option Name) (spot : Result Element Reply) → Refused spot → Refused (target_at h kinds lane to spot)
+  target_refused wrong_class h kinds to (Err r) p = p
+  target_refused wrong_class h kinds to (Ok e) p = either (may_refer h kinds e.kind to) _ _ tt wrong_class
+
+-- a refusal of a spot gives no object
+pub refused_none : (h : Header) (kinds : Kinds) (lane : ℕ) (wanted : FieldKind → Bool) (at : Option Name) (spot : Spot) (r : Reply) → spot_at h kinds lane wanted at spot ≡ Err r → object_of r ≡ None
+refused_none h kinds lane wanted at spot r is = subst (Refused (λ q. object_of q ≡ None) lane refl refl refl refl) is (spot_refused (λ q. object_of q ≡ None) lane refl refl refl refl h kinds wanted at spot)
+
+-- and tells no class
+abbrev TellsNone : List Class → ℕ → Result Element Reply → Type 0
+TellsNone classes lane x = Refused (HasText classes) lane tt tt tt tt x
+
+spot_tells : (classes : List Class) (lane : ℕ) (h : Header) (kinds : Kinds) (wanted : FieldKind → Bool) (at : Option Name) (spot : Spot) → TellsNone classes lane (spot_at h kinds lane wanted at spot)
+spot_tells classes lane h kinds wanted at spot = spot_refused (HasText classes) lane tt tt tt tt h kinds wanted at spot
+
+target_tells : (classes : List Class) (lane : ℕ) (h : Header) (kinds : Kinds) (to : Option Name) (spot : Result Element Reply) → TellsNone classes lane spot → TellsNone classes lane (target_at h kinds lane to spot)
+target_tells classes lane h kinds to spot p = target_refused (HasText classes) lane tt tt tt tt tt h kinds to spot p
+
+-- what a call on an element leaves and tells, and a refusal
+module _ (header : Header) (s : State) (lane : ℕ) (piece : List Entry) (r : Reply) where
+  record Answers : Type 0 where
+    stays : Stays s piece
+    told : HasText header.classes.classes r
+
+  said : (what : Reply) → HasText header.classes.classes what → Says what piece r → Answers
+  said what told h = record { stays = quiet s piece h.0; told = plain header.classes.classes r what told h.1 }
+
+  on_element : (x : Result Element Reply) (call : Element → List Entry → Reply → Type 0) → TellsNone header.classes.classes lane x → ((e : Element) → call e piece r → Answers) → OnElement x call piece r → Answers
+  on_element (Err why) call told f h = said why told h
+  on_element (Ok e) call told f h = f e h
+
+  on_object : (o : Option Name) (call : Name → List Entry → Reply → Type 0) → ((n : Name) → call n piece r → Answers) → OnObject lane o call piece r → Answers
+  on_object None call f h = said (reply.NoObject lane) tt h
+  on_object (Some n) call f h = f n h
+
+  -- one solo call of one entry, whose reply tells no class
+  one_answers : (a : Act) (acts : List Act) (told : Reply) → HasText header.classes.classes told → acts ≡ a ∷ [] → piece ≡ by (Lane lane) acts → r ≡ told → Stays s (by (Lane lane) (a ∷ [])) → Answers
+  one_answers a acts told text one is tells stays = record { stays = alone (Stays s) lane a piece acts one is stays; told = plain header.classes.classes r told text tells }
+
+  store_answers : (a : Act) (acts : List Act) (told : Reply) → HasText header.classes.classes told → StoreEntries a acts → piece ≡ by (Lane lane) acts → r ≡ told → Stays s (by (Lane lane) (a ∷ [])) → ((of : Name) → Stays s (by (Lane lane) (act.Kept of ∷ a ∷ []))) → Answers
+  store_answers a acts told text store is tells stays noted = record { stays = stored s lane a piece acts store is stays noted; told = plain header.classes.classes r told text tells }
+
+  -- a command that leaves the frames and the kinds
+  still : (what : LaneCmd) → frames_by (frames_of s.world) (cmd.Lane lane what) ≡ frames_of s.world → AreMade header s.world → Answers → Leaves header s lane what piece r
+  still what same made h = record {
+    frames = h.stays.frames ∙ sym same;
+    made = made_on header s.world (run s piece).world h.stays.kinds made;
+    told = h.told;
+  }
+
+-- the class of an object that is told is one of the table
+object_told : (header : Header) (w : World) (lane : ℕ) (o : Option Name) → AreMade header w → HasText header.classes.classes (told_object w.kinds lane o)
+object_told header w lane None made = tt
+object_told header w lane (Some at) made = kind_told (kind_at w.kinds at) (made.class at)
   where
-    go : StoresAlone (act.Root at on was) h.acts → frames_of (after new) ≡ frames_of (after old)
-    go (inl one) = ap (λ s. frames_of s.world) (state_after_one z old new (Lane lane) (act.Root at on was) h one)
-    go (inr noted) = ap (λ s. frames_of s.world) (state_after z old new (Lane lane) (act.Root at on was) h) ∙ ap (λ (acts : List Act). frames_of (run (state_of old) (by (Lane lane) acts)).world) noted.1
+    kind_told : (k : Option Kind) → ((kind : Kind) → k ≡ Some kind → kind.class.0 < length header.classes.classes) → HasText header.classes.classes (told_kind lane at k)
+    kind_told None h = tt
+    kind_told (Some kind) h = h kind refl
 
--- a store into a cell leaves the frames
-pub write_frames : (z : Sizes) (old new : List Entry) (lane : ℕ) (at : Name) (slot : ℕ) (to was : Option Name) → Appends z old new (Lane lane) (act.WriteRef at slot to was) → frames_of (after new) ≡ frames_of (after old)
-write_frames z old new lane at slot to was h = go h.call
-  where
-    go : StoresAlone (act.WriteRef at slot to was) h.acts → frames_of (after new) ≡ frames_of (after old)
-    go (inl one) = ap (λ s. frames_of s.world) (state_after_one z old new (Lane lane) (act.WriteRef at slot to was) h one)
-    go (inr noted) = ap (λ s. frames_of s.world) (state_after z old new (Lane lane) (act.WriteRef at slot to was) h) ∙ ap (λ (acts : List Act). frames_of (run (state_of old) (by (Lane lane) acts)).world) noted.1
+refusal_stays : (s : State) (lane : ℕ) (why : CreateErr) → Stays s (by (Lane lane) (act_of_refusal 1 why ∷ []))
+refusal_stays s lane (create.Full free) = record { frames = refl; kinds = refl }
+refusal_stays s lane (create.NamesSpent left) = record { frames = refl; kinds = refl }
 
--- ---- what a line that fits has
+refusal_one : (s : State) (lane : ℕ) (why : CreateErr) (acts : List Act) → CallOf s (Lane lane) (act_of_refusal 1 why) acts → acts ≡ act_of_refusal 1 why ∷ []
+refusal_one s lane (create.Full free) acts call = call.0
+refusal_one s lane (create.NamesSpent left) acts call = call.0
 
-and_first : (a b : Bool) → (a && b) ≡ true → a ≡ true
-and_first true b h = refl
-and_first false b h = absurd cc
+no_room_text : (classes : List Class) (lane : ℕ) (why : CreateErr) → HasText classes (no_room lane why)
+no_room_text classes lane (create.Full free) = tt
+no_room_text classes lane (create.NamesSpent left) = tt
 
--- how many variables a lane has
-pub numbers_at : (all : List LaneVariables) (lane : ℕ) (l : LaneVariables) → slice_get all lane ≡ Some l → slice_index (numbers_of all) lane ≡ length l.slots.items
-numbers_at [] lane l e = absurd cc
-numbers_at (x ∷ all) zero l e = let same : x ≡ l = cc in ap (λ (y : LaneVariables). length y.slots.items) same
-numbers_at (x ∷ all) (suc lane) l e = numbers_at all lane l e
-
--- the lane of a line that fits is there
-pub fit_lane : (lane lanes count : ℕ) (b : Bool) → count ≡ lanes → (nat_lt lane lanes && b) ≡ true → lane < count
-fit_lane lane lanes count b is h = let t : nat_lt lane lanes ≡ true = and_first (nat_lt lane lanes) b h in grind (arith, nat_tests, t, is)
-
--- the variable of a line that fits is there
-pub fit_var : (lane var lanes : ℕ) (all : List LaneVariables) (l : LaneVariables) (a c : Bool) → slice_get all lane ≡ Some l → (nat_lt lane lanes && ((a && nat_lt var (slice_index (numbers_of all) lane)) && c)) ≡ true → var < length l.slots.items
-fit_var lane var lanes all l a c at h =
-    let parts = and_true (nat_lt lane lanes) _ h in
-    let both = and_first (a && nat_lt var (slice_index (numbers_of all) lane)) c parts.1 in
-    let one = and_true a (nat_lt var (slice_index (numbers_of all) lane)) both in
-    let t : nat_lt var (slice_index (numbers_of all) lane) ≡ true = one.1 in
-    let number : slice_index (numbers_of all) lane ≡ length l.slots.items = numbers_at all lane l at in
-    grind (arith, nat_tests, t, number)
-
--- the class of a line that fits is there
-pub fit_class : (lane lanes : ℕ) (header : Header) (class : ClassId) (x : Bool) → (nat_lt lane lanes && (x && nat_lt class.0 (length header.classes.classes))) ≡ true → class.0 < length header.classes.classes
-fit_class lane lanes header class x h =
-    let parts = and_true (nat_lt lane lanes) _ h in
-    let last : nat_lt class.0 (length header.classes.classes) ≡ true = (and_true x _ parts.1).1 in
-    grind (arith, nat_tests, last)
+pub no_room_none : (lane : ℕ) (why : CreateErr) → object_of (no_room lane why) ≡ None
+no_room_none lane (create.Full free) = refl
+no_room_none lane (create.NamesSpent left) = refl
 
 -- the name of the one object that was made
 pub first_name : (out : List Ref) (d : Ref) (n : Name) → map (λ r. r.name) out ≡ n ∷ [] → (get_or out 0 d).name ≡ n
 first_name [] d n e = absurd cc
 first_name (r ∷ rs) d n e = cc
 
--- a variable that stands for nothing, and one that stands for an object
-pub no_object : (z : State) (lane : ℕ) (o : Option Name) (on : Bool) → o ≡ None → SetsObject z lane o on []
-no_object z lane o on e = subst (λ (p : Option Name). SetsObject z lane p on []) (sym e) refl
+make_leaves : (header : Header) (s : State) (lane var : ℕ) (class : ClassId) (piece : List Entry) (r : Reply) → class.0 < length header.classes.classes → AreMade header s.world → Makes s lane (table.kind_of header.classes class) piece r → Leaves header s lane (lane_cmd.New var class) piece r
+make_leaves header s lane var class piece r small made (inl (count, (acts, call, is), tells)) =
+    let kind : Kind = table.kind_of header.classes class in
+    let a : Act = act.Make (kind ∷ []) count in
+    record {
+      frames = alone (λ es. frames_of (run s es).world ≡ frames_of s.world) lane a piece acts call.0 is refl;
+      made = alone (λ es. AreMade header (run s es).world) lane a piece acts call.0 is (made_more header s.world (run s (by (Lane lane) (a ∷ []))).world lane kind refl small refl made);
+      told = plain header.classes.classes r (reply.New lane (record { lane = lane; count = count })) tt tells;
+    }
+make_leaves header s lane var class piece r small made (inr (why, (acts, call, is), tells)) =
+    still header s lane piece r (lane_cmd.New var class) refl made
+    (one_answers header s lane piece r (act_of_refusal 1 why) acts (no_room lane why) (no_room_text header.classes.classes lane why) (refusal_one s lane why acts call) is tells (refusal_stays s lane why))
 
-pub an_object : (z : State) (lane : ℕ) (o : Option Name) (on was : Bool) (n : Name) (piece : List Entry) → o ≡ Some n → OneCall z (Lane lane) (act.Root n on was) piece → SetsObject z lane o on piece
-an_object z lane o on was n piece e call = subst (λ (p : Option Name). SetsObject z lane p on piece) (sym e) (was, call)
-
--- ---- what the piece of a call answers
-
-pub said_alone : (lane : ℕ) (silent : Reply) (a : Act) (acts : List Act) → acts ≡ a ∷ [] → lane_reply lane silent (Some a) ≡ lane_reply lane silent (closing (by (Lane lane) acts))
-said_alone lane silent a acts e = ap (λ (xs : List Act). lane_reply lane silent (closing (by (Lane lane) xs))) (sym e)
-
-pub said_stored : (lane : ℕ) (silent : Reply) (a : Act) (acts : List Act) → StoresAlone a acts → lane_reply lane silent (Some a) ≡ lane_reply lane silent (closing (by (Lane lane) acts))
-said_stored lane silent a acts (inl one) = said_alone lane silent a acts one
-said_stored lane silent a acts (inr noted) = ap (λ (xs : List Act). lane_reply lane silent (closing (by (Lane lane) xs))) (sym noted.1)
-
-pub said_refused : (z : State) (lane asked : ℕ) (silent : Reply) (why : CreateErr) (acts : List Act) → CallOf z (Lane lane) (act_of_refusal asked why) acts → lane_reply lane silent (Some (act_of_refusal asked why)) ≡ lane_reply lane silent (closing (by (Lane lane) acts))
-said_refused z lane asked silent (create.Full free) acts call = said_alone lane silent _ acts call
-said_refused z lane asked silent (create.NamesSpent left) acts call = said_alone lane silent _ acts call
-
--- a refusal tells no class
-pub refused_told : (classes : List Class) (lane asked : ℕ) (why : CreateErr) (silent : Reply) (r : Reply) → r ≡ lane_reply lane silent (Some (act_of_refusal asked why)) → HasText classes r
-refused_told classes lane asked (create.Full free) silent r e = subst (HasText classes) (sym e) tt
-refused_told classes lane asked (create.NamesSpent left) silent r e = subst (HasText classes) (sym e) tt
-
--- a refusal gives no object
-pub refused_none : (lane asked : ℕ) (silent : Reply) (why : CreateErr) → object_of (lane_reply lane silent (Some (act_of_refusal asked why))) ≡ None
-refused_none lane asked silent (create.Full free) = refl
-refused_none lane asked silent (create.NamesSpent left) = refl
-
--- the reply to a refusal does not tell how many were asked for
-pub refused_alike : (lane asked other : ℕ) (silent : Reply) (why : CreateErr) → lane_reply lane silent (Some (act_of_refusal asked why)) ≡ lane_reply lane silent (Some (act_of_refusal other why))
-refused_alike lane asked other silent (create.Full free) = refl
-refused_alike lane asked other silent (create.NamesSpent left) = refl
+-- each command of a lane
+pub lane_leaves : (header : Header) (s : State) (names new : Bindings) (lane : ℕ) (what : LaneCmd) (piece : List Entry) (r : Reply) → LaneClass header what → AreMade header s.world → LaneTurn header s names lane what piece r new → Leaves header s lane what piece r
+lane_leaves header s names new lane lane_cmd.Open piece r class made ((phase, (acts, call, is), tells), same) = record {
+  frames = alone (λ es. frames_of (run s es).world ≡ set_at (frames_of s.world) lane true) lane (act.FrameOpen phase) piece acts call.0 is (λ i j. or_cond (j == lane) (frames_of s.world j) i);
+  made = alone (λ es. AreMade header (run s es).world) lane (act.FrameOpen phase) piece acts call.0 is (made_on header s.world (run s (by (Lane lane) (act.FrameOpen phase ∷ []))).world refl made);
+  told = plain header.classes.classes r (reply.Opened lane phase) tt tells;
+}
+lane_leaves header s names new lane lane_cmd.Close piece r class made ((acts, call, is), tells, same) = record {
+  frames = alone (λ es. frames_of (run s es).world ≡ set_at (frames_of s.world) lane false) lane act.FrameClose piece acts call.0 is (λ i j. one_closed s.world.opened lane j i);
+  made = alone (λ es. AreMade header (run s es).world) lane act.FrameClose piece acts call.0 is (made_on header s.world (run s (by (Lane lane) (act.FrameClose ∷ []))).world refl made);
+  told = plain header.classes.classes r (reply.Closed lane) tt tells;
+}
+lane_leaves header s names new lane (lane_cmd.New var class) piece r small made h = make_leaves header s lane var class piece r small made h.0
+lane_leaves header s names new lane (lane_cmd.Root var on) piece r class made h =
+    still header s lane piece r (lane_cmd.Root var on) refl made
+    (on_object header s lane piece r (names.objects lane var) _
+    (λ n h. store_answers header s lane piece r (act.Root n on h.0) h.1.0 (reply.WasRoot lane h.0) tt h.1.1.0 h.1.2 h.2 (record { frames = refl; kinds = refl }) (λ of. record { frames = refl; kinds = refl })) h.0)
+lane_leaves header s names new lane (lane_cmd.Set spot to) piece r class made h =
+    still header s lane piece r (lane_cmd.Set spot to) refl made
+    (on_element header s lane piece r (set_spot header s.world.kinds lane (names.objects lane) spot to) _
+    (target_tells header.classes.classes lane header s.world.kinds (value_of (names.objects lane) to) _ (spot_tells header.classes.classes lane header s.world.kinds is_ref (names.objects lane spot.var) spot))
+    (λ e h. store_answers header s lane piece r (act.WriteRef e.at e.slot (value_of (names.objects lane) to) h.0) h.1.0 (reply.Was lane h.0) tt h.1.1.0 h.1.2 h.2 (record { frames = refl; kinds = refl }) (λ of. record { frames = refl; kinds = refl })) h.0)
+lane_leaves header s names new lane (lane_cmd.Get var spot) piece r class made h =
+    still header s lane piece r (lane_cmd.Get var spot) refl made
+    (on_element header s lane piece r (get_spot header s.world.kinds lane (names.objects lane) spot) _ (spot_tells header.classes.classes lane header s.world.kinds is_ref (names.objects lane spot.var) spot)
+    (λ e h. one_answers header s lane piece r (act.ReadRef e.at e.slot h.0) h.1.0 (reply.Is lane h.0) tt h.1.1.0 h.1.2 h.2 (record { frames = refl; kinds = refl })) h.0)
+lane_leaves header s names new lane (lane_cmd.Put spot value) piece r class made h =
+    still header s lane piece r (lane_cmd.Put spot value) refl made
+    (on_element header s lane piece r (int_spot header s.world.kinds lane (names.objects lane) spot) _ (spot_tells header.classes.classes lane header s.world.kinds is_int (names.objects lane spot.var) spot)
+    (λ e h. one_answers header s lane piece r (act.WritePlain e.at e.slot value h.0) h.1.0 (reply.WasNumber lane h.0) tt h.1.1.0 h.1.2 h.2 (record { frames = refl; kinds = refl })) h.0)
+lane_leaves header s names new lane (lane_cmd.Take spot) piece r class made h =
+    still header s lane piece r (lane_cmd.Take spot) refl made
+    (on_element header s lane piece r (int_spot header s.world.kinds lane (names.objects lane) spot) _ (spot_tells header.classes.classes lane header s.world.kinds is_int (names.objects lane spot.var) spot)
+    (λ e h. one_answers header s lane piece r (act.ReadPlain e.at e.slot h.0) h.1.0 (reply.IsNumber lane h.0) tt h.1.1.0 h.1.2 h.2 (record { frames = refl; kinds = refl })) h.0)
+lane_leaves header s names new lane (lane_cmd.Print var) piece r class made h =
+    still header s lane piece r (lane_cmd.Print var) refl made (said header s lane piece r (told_object s.world.kinds lane (names.objects lane var)) (object_told header s.world lane (names.objects lane var) made) h.0)

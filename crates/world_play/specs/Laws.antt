@@ -6,22 +6,28 @@ use Rattle.world_model.specs.State.{beginning}
 use Rattle.world_model.specs.Histories.{Legal}
 use Rattle.level_script.specs.Frames.{IsAtOnce}
 use Rattle.world_play.specs.Header.{Header}
-use Rattle.world_play.specs.Types.{Entry, Line, Cmd}
+use Rattle.world_play.specs.Types.{Entry, Reply, Line, Cmd, LaneCmd}
 use Rattle.world_play.specs.Types.cmd
-use Rattle.world_play.specs.Plays.{Bindings, no_bindings, Plays, text, entries_of}
+use Rattle.world_play.specs.Types.lane_cmd
+use Rattle.world_play.specs.Bindings.{Bindings, no_bindings}
+use Rattle.world_play.specs.Plays.{Plays, text, entries_of}
 use Rattle.world_play.specs.Outcome.{outcome}
 
 -- the class of an object that the command makes is one of the table
-abbrev pub HasClass : Header → Cmd → Type 0
-HasClass header (cmd.New var class) = class.0 < length header.classes.classes
-HasClass header _ = Unit {0}
+abbrev pub LaneClass : Header → LaneCmd → Type 0
+LaneClass header (lane_cmd.New var class) = class.0 < length header.classes.classes
+LaneClass header _ = Unit {0}
 
--- However a legal history plays a whole script, whose classes are ready as soon as they are asked, its text is the outcome of the script.
+abbrev pub HasClass : Header → Cmd → Type 0
+HasClass header (cmd.Lane lane what) = LaneClass header what
+HasClass header (cmd.Gc what) = Unit {0}
+
+-- However a legal history plays a whole script, whose classes are ready as soon as they are asked, the text of its replies is the outcome of the script.
 abbrev pub OneText : Type 0
-OneText = (z : Sizes) (budget : ℕ) (header : Header) (lines : List Line) (pieces : List (List Entry)) (last : Bindings)
+OneText = (z : Sizes) (budget : ℕ) (header : Header) (lines : List Line) (pieces : List (List Entry)) (replies : List Reply) (last : Bindings)
     → 0 < length header.classes.classes
     → AllByRecursion IsAtOnce header.classes.classes
     → AllByRecursion (λ l. HasClass header l.cmd) lines
     → Legal z (entries_of pieces)
-    → Plays budget header beginning no_bindings lines pieces last
-    → text header beginning no_bindings lines pieces ≡ outcome z header lines
+    → Plays budget header beginning no_bindings lines pieces replies last
+    → text header.classes.classes replies ≡ outcome z header lines

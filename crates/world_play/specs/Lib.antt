@@ -2,10 +2,14 @@ pub mod Types
 pub mod Header
 pub mod Text
 pub mod Spots
+pub mod Bindings
+pub mod Lanes
+pub mod Collections
 pub mod Plays
 pub mod Outcome
 pub mod Laws
 pub mod Streams
+pub mod Slots
 pub mod Variables
 pub mod Turns
 pub mod Stages

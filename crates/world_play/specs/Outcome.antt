@@ -1,5 +1,6 @@
 -- What a whole script answers, as a function of its classes and lines: without pieces, slices, notes or steps.
 -- A script is whole where its collections are whole ones; as the language stands, each script is.
+-- A new part of the world is added in `Scene`, in `first_scene` and, for the proofs, in `scene_of` (proofs/Removing); a new command is one line of `lane_outcome` or `gc_outcome`.
 use Rattle.std.specs.Prelude.{ℕ, ◌+◌, ◌-◌, ◌==◌, nat_lt, Bool, false, not, ◌&&◌, if◌then◌else◌, List, [], ◌∷◌, ◌++◌, length, filter, Option, Some, None, Result, Ok, Err}
 use Rattle.std.specs.List.{list_any, count_by}
 use Rattle.world_model.specs.NameLists.{same_pass, has, members, set_at, set_name}
@@ -9,12 +10,15 @@ use Rattle.world_model.specs.Reach.{Graph}
 use Rattle.world_model.specs.Reached as reach
 use Rattle.world_play.specs.Header.{Header}
 use Rattle.world_play.specs.Spots.{Element, value_of, set_spot, get_spot, int_spot, told_object}
-use Rattle.world_play.specs.Types.{Name, Kind, Idle, Pass, Lane, Reply, Line, Who, Cmd}
+use Rattle.world_play.specs.Types.{Name, Kind, Idle, Pass, Lane, Reply, Line, Cmd, LaneCmd, GcCmd}
 use Rattle.world_play.specs.Types.reply
-use Rattle.world_play.specs.Types.who
 use Rattle.world_play.specs.Types.cmd
-use Rattle.world_play.specs.Text.{in_name_order, text_of}
-use Rattle.world_play.specs.Plays.{Bindings, no_bindings, names_after}
+use Rattle.world_play.specs.Types.lane_cmd
+use Rattle.world_play.specs.Types.gc_cmd
+use Rattle.world_play.specs.Text.{in_name_order}
+use Rattle.world_play.specs.Bindings.{Bindings, no_bindings, bound, ended}
+use Rattle.world_play.specs.Lanes.{object_of}
+use Rattle.world_play.specs.Plays.{text}
 
 -- what the lines of a whole script see of the world
 pub record Scene : Type 0 where
@@ -118,43 +122,55 @@ abbrev pub with_collection : Sizes → Scene → Reply → Scene
 with_collection z c (reply.FullGc removed left names) = collected z c
 with_collection z c r = c
 
+-- ---- commands
+
+-- what a command answers, and what it leaves
+pub record Told : Type 0 where
+  pub reply : Reply
+  pub scene : Scene
+  pub names : Bindings
+
+-- a command that leaves the variables
+abbrev pub answers : Bindings → Reply → Scene → Told
+answers names r left = record { reply = r; scene = left; names = names }
+
+-- a command that binds a variable to the object of its reply, or to none
+abbrev pub binds : Bindings → ℕ → ℕ → Reply → Scene → Told
+binds names lane var r left = record { reply = r; scene = left; names = bound names lane var (object_of r) }
+
+abbrev pub lane_outcome : Sizes → Header → Scene → Bindings → ℕ → LaneCmd → Told
+lane_outcome z header c names lane lane_cmd.Open = answers names (reply.Opened lane Idle) (record c { opened = Lane lane ∷ c.opened })
+lane_outcome z header c names lane lane_cmd.Close = answers (ended names lane) (reply.Closed lane) (record c { opened = filter (λ q. not (same_pass (Lane lane) q)) c.opened })
+lane_outcome z header c names lane (lane_cmd.New var class) = let r = new_reply z c lane in binds names lane var r (with_object c lane (kind_of header.classes class) r)
+lane_outcome z header c names lane (lane_cmd.Root var on) = answers names (root_reply c lane (names.objects lane var)) (with_root c (names.objects lane var) on)
+lane_outcome z header c names lane (lane_cmd.Set spot to) =
+    let e = set_spot header c.kinds lane (names.objects lane) spot to in
+    answers names (on_element (λ e. reply.Was lane (c.cell e.at e.slot)) e) (where_element c (with_cell c (value_of (names.objects lane) to)) e)
+lane_outcome z header c names lane (lane_cmd.Get var spot) =
+    binds names lane var (on_element (λ e. reply.Is lane (c.cell e.at e.slot)) (get_spot header c.kinds lane (names.objects lane) spot)) c
+lane_outcome z header c names lane (lane_cmd.Put spot value) =
+    let e = int_spot header c.kinds lane (names.objects lane) spot in
+    answers names (on_element (λ e. reply.WasNumber lane (c.plain e.at e.slot)) e) (where_element c (with_plain c value) e)
+lane_outcome z header c names lane (lane_cmd.Take spot) =
+    answers names (on_element (λ e. reply.IsNumber lane (c.plain e.at e.slot)) (int_spot header c.kinds lane (names.objects lane) spot)) c
+lane_outcome z header c names lane (lane_cmd.Print var) = answers names (told_object c.kinds lane (names.objects lane var)) c
+
+abbrev pub gc_outcome : Sizes → Scene → Bindings → GcCmd → Told
+gc_outcome z c names gc_cmd.Full = let r = full_reply z c in answers names r (with_collection z c r)
+
+abbrev pub outcome_of : Sizes → Header → Scene → Bindings → Cmd → Told
+outcome_of z header c names (cmd.Lane lane what) = lane_outcome z header c names lane what
+outcome_of z header c names (cmd.Gc what) = gc_outcome z c names what
+
 -- ---- whole scripts
 
--- what a line answers
-abbrev pub reply_to : Sizes → Header → Scene → Bindings → Who → Cmd → Reply
-reply_to z header c names (who.Lane lane) cmd.Open = reply.Opened lane Idle
-reply_to z header c names (who.Lane lane) cmd.Close = reply.Closed lane
-reply_to z header c names (who.Lane lane) (cmd.New var class) = new_reply z c lane
-reply_to z header c names (who.Lane lane) (cmd.Root var on) = root_reply c lane (names lane var)
-reply_to z header c names (who.Lane lane) (cmd.Set spot to) = on_element (λ e. reply.Was lane (c.cell e.at e.slot)) (set_spot header c.kinds lane (names lane) spot to)
-reply_to z header c names (who.Lane lane) (cmd.Get var spot) = on_element (λ e. reply.Is lane (c.cell e.at e.slot)) (get_spot header c.kinds lane (names lane) spot)
-reply_to z header c names (who.Lane lane) (cmd.Put spot value) = on_element (λ e. reply.WasNumber lane (c.plain e.at e.slot)) (int_spot header c.kinds lane (names lane) spot)
-reply_to z header c names (who.Lane lane) (cmd.Take spot) = on_element (λ e. reply.IsNumber lane (c.plain e.at e.slot)) (int_spot header c.kinds lane (names lane) spot)
-reply_to z header c names (who.Lane lane) (cmd.Print var) = told_object c.kinds lane (names lane var)
-reply_to z header c names (who.Lane lane) cmd.GcFull = full_reply z c
-reply_to z header c names who.Gc what = full_reply z c
-
--- what it leaves
-abbrev pub scene_after : Sizes → Header → Scene → Bindings → Who → Cmd → Reply → Scene
-scene_after z header c names (who.Lane lane) cmd.Open r = record c { opened = Lane lane ∷ c.opened }
-scene_after z header c names (who.Lane lane) cmd.Close r = record c { opened = filter (λ q. not (same_pass (Lane lane) q)) c.opened }
-scene_after z header c names (who.Lane lane) (cmd.New var class) r = with_object c lane (kind_of header.classes class) r
-scene_after z header c names (who.Lane lane) (cmd.Root var on) r = with_root c (names lane var) on
-scene_after z header c names (who.Lane lane) (cmd.Set spot to) r = where_element c (with_cell c (value_of (names lane) to)) (set_spot header c.kinds lane (names lane) spot to)
-scene_after z header c names (who.Lane lane) (cmd.Get var spot) r = c
-scene_after z header c names (who.Lane lane) (cmd.Put spot value) r = where_element c (with_plain c value) (int_spot header c.kinds lane (names lane) spot)
-scene_after z header c names (who.Lane lane) (cmd.Take spot) r = c
-scene_after z header c names (who.Lane lane) (cmd.Print var) r = c
-scene_after z header c names (who.Lane lane) cmd.GcFull r = with_collection z c r
-scene_after z header c names who.Gc what r = with_collection z c r
-
--- the text of lines in order, from a scene and these bindings on
-unfoldable pub outcome_from : Sizes → Header → Scene → Bindings → List Line → List ℕ
-outcome_from z header c names [] = []
-outcome_from z header c names (l ∷ ls) =
-    let r = reply_to z header c names l.who l.cmd in
-    text_of header.classes.classes r ++ outcome_from z header (scene_after z header c names l.who l.cmd r) (names_after names l.who l.cmd r) ls
+-- the replies to lines in order, from a scene and these variables on
+unfoldable pub replies_from : Sizes → Header → Scene → Bindings → List Line → List Reply
+replies_from z header c names [] = []
+replies_from z header c names (l ∷ ls) =
+    let one = outcome_of z header c names l.cmd in
+    one.reply ∷ replies_from z header one.scene one.names ls
 
 -- the outcome of a whole script
 abbrev pub outcome : Sizes → Header → List Line → List ℕ
-outcome z header lines = outcome_from z header first_scene no_bindings lines
+outcome z header lines = text header.classes.classes (replies_from z header first_scene no_bindings lines)

@@ -3,9 +3,8 @@ use Rattle.std.specs.Prelude.{ℕ, ◌+◌, ◌-◌, nat_lt, Bool, true, false, 
 use Rattle.class_schema.specs.Layout.{is_ref}
 use Rattle.class_schema.specs.Ancestry.{is_a}
 use Rattle.class_schema.specs.Table.{find_field}
-use Rattle.world_play.specs.Types.{Name, ClassId, Kind, Reply, Cmd, Spot, Field, FieldKind}
+use Rattle.world_play.specs.Types.{Name, ClassId, Kind, Reply, Spot, Field, FieldKind}
 use Rattle.world_play.specs.Types.reply
-use Rattle.world_play.specs.Types.cmd
 use Rattle.world_play.specs.Types.field
 use Rattle.world_play.specs.Header.{Header}
 
@@ -87,12 +86,7 @@ get_spot h kinds lane names spot = spot_at h kinds lane is_ref (names spot.var) 
 abbrev pub int_spot : Header → Kinds → ℕ → Own → Spot → Result Element Reply
 int_spot h kinds lane names spot = spot_at h kinds lane is_int (names spot.var) spot
 
--- ---- replies without a call
-
--- the refusal of a spot
-abbrev pub refusal_of : ℕ → Result Element Reply → Reply
-refusal_of lane (Ok e) = reply.NoObject lane
-refusal_of lane (Err r) = r
+-- ---- what is told of an object
 
 -- an object with its class
 abbrev pub told_kind : ℕ → Name → Option Kind → Reply
@@ -102,12 +96,3 @@ told_kind lane at (Some kind) = reply.Object lane at kind.class
 abbrev pub told_object : Kinds → ℕ → Option Name → Reply
 told_object kinds lane None = reply.NoObject lane
 told_object kinds lane (Some at) = told_kind lane at (kind_at kinds at)
-
--- the reply to a line that makes no entry
-abbrev pub silent_reply : Header → Kinds → ℕ → Own → Cmd → Reply
-silent_reply h kinds lane names (cmd.Set spot to) = refusal_of lane (set_spot h kinds lane names spot to)
-silent_reply h kinds lane names (cmd.Get var spot) = refusal_of lane (get_spot h kinds lane names spot)
-silent_reply h kinds lane names (cmd.Put spot value) = refusal_of lane (int_spot h kinds lane names spot)
-silent_reply h kinds lane names (cmd.Take spot) = refusal_of lane (int_spot h kinds lane names spot)
-silent_reply h kinds lane names (cmd.Print var) = told_object kinds lane (names var)
-silent_reply h kinds lane names _ = reply.NoObject lane

@@ -2,17 +2,15 @@
 use Rattle.std.specs.Prelude.{◌≡◌, ◌≤◌, ◌⊎◌, ◌*◌, ℕ, List, [], ◌∷◌, ◌++◌, flat_map, length}
 use Rattle.world_model.specs.Sizes.{Sizes, item_count}
 use Rattle.world_model.specs.State.{grey_units}
-use Rattle.world_model.specs.Next.{run}
 use Rattle.world_model.specs.Histories.{state_of, after, Legal}
-use Rattle.world_model.specs.Calls.{by, SlicesUntilIdle}
+use Rattle.world_model.specs.Calls.{by, Slice, by_marker}
 use Rattle.world_model.specs.Engines.{Holdings, KeepsHeld}
 use Rattle.world_play.specs.Header.{Header}
-use Rattle.world_play.specs.Types.{Name, Idle, Marking, Gathering, Marker, Collector, Act, Entry, Reply}
+use Rattle.world_play.specs.Types.{Name, Idle, Marking, Gathering, Collector, Act, Entry, Reply, GcCmd}
 use Rattle.world_play.specs.Types.act
 use Rattle.world_play.specs.Types.commit
-use Rattle.world_play.specs.Types.cmd
-use Rattle.world_play.specs.Types.begin
-use Rattle.world_play.specs.Plays.{SlicesSpent, SweepsMore, SweepsAll, PurgesAll, CollectorPiece, full_reply, first_begin}
+use Rattle.world_play.specs.Collections.{SlicesSpent, MarksUntilIdle, SweepsMore, SweepsAll, PurgesAll, GcTurn, GcPart, told_full}
+use Rattle.world_play.specs.Text.{HasText}
 
 -- a collection marks, and nothing is open
 pub record IsMarking (z : Sizes) (history : List Entry) : Type 0 where
@@ -22,17 +20,17 @@ pub record IsMarking (z : Sizes) (history : List Entry) : Type 0 where
 
 -- slices marked until one was idle
 pub record Marks (z : Sizes) (old new : List Entry) (budget : ℕ) : Type 0 where
-  pub slices : List (List Act)
-  pub marked : SlicesUntilIdle (state_of old) budget slices
-  pub grown : new ≡ old ++ flat_map (by (Marker 0)) slices
+  pub slices : List Slice
+  pub marked : MarksUntilIdle (state_of old) budget slices
+  pub grown : new ≡ old ++ flat_map by_marker slices
   pub now : IsMarking z new
   pub black : grey_units (state_of new) ≡ []
 
 -- slices marked so far, and none was idle
 pub record MarksOn (z : Sizes) (old new : List Entry) (budget : ℕ) : Type 0 where
-  pub slices : List (List Act)
+  pub slices : List Slice
   pub marked : SlicesSpent (state_of old) budget slices
-  pub grown : new ≡ old ++ flat_map (by (Marker 0)) slices
+  pub grown : new ≡ old ++ flat_map by_marker slices
   pub now : IsMarking z new
 
 -- what a collection removed is being found
@@ -73,8 +71,8 @@ pub record FindsSome (z : Sizes) (old new : List Entry) (budget : ℕ) : Type 0 
   pub legal : Legal z new
 
 -- the history grew by slices, a commit and sweeps
-abbrev pub GrowsBy : List Entry → List Entry → List (List Act) → List Act → Type 0
-GrowsBy old new slices sweeps = new ≡ ((old ++ flat_map (by (Marker 0)) slices) ++ by Collector (act.CommitGc commit.Done ∷ [])) ++ by Collector sweeps
+abbrev pub GrowsBy : List Entry → List Entry → List Slice → List Act → Type 0
+GrowsBy old new slices sweeps = new ≡ ((old ++ flat_map by_marker slices) ++ by Collector (act.CommitGc commit.Done ∷ [])) ++ by Collector sweeps
 
 -- purges destroyed what was found
 pub record Destroys (z : Sizes) (budget : ℕ) (header : Header) (old new : List Entry) : Type 0 where
@@ -87,33 +85,39 @@ pub record Destroys (z : Sizes) (budget : ℕ) (header : Header) (old new : List
 
 -- the rest of a whole collection, once it has begun: it marked, was committed, found what it removed, and destroyed it
 pub record GoesOn (z : Sizes) (budget : ℕ) (header : Header) (old new : List Entry) (before now : Holdings) (r : Reply) : Type 0 where
-  pub slices : List (List Act)
+  pub slices : List Slice
   pub sweeps : List Act
   pub front : List Entry
-  pub marked : SlicesUntilIdle (state_of old) budget slices
+  pub marked : MarksUntilIdle (state_of old) budget slices
   pub swept : SweepsAll budget sweeps
   pub grown : GrowsBy old front slices sweeps
   pub destroys : Destroys z budget header front new
-  pub answer : r ≡ full_reply (after new) begin.Started
+  pub answer : r ≡ told_full (after new)
   pub opened : (after front).opened ≡ (after old).opened
   pub held : KeepsHeld before now
 
 -- a part of that, up to some of its sweeps, or to all of them
 pub record GoesOnSome (z : Sizes) (budget : ℕ) (old new : List Entry) : Type 0 where
-  pub slices : List (List Act)
+  pub slices : List Slice
   pub sweeps : List Act
-  pub marked : SlicesUntilIdle (state_of old) budget slices
+  pub marked : MarksUntilIdle (state_of old) budget slices
   pub swept : SweepsMore budget sweeps ⊎ SweepsAll budget sweeps
   pub grown : GrowsBy old new slices sweeps
   pub legal : Legal z new
 
--- a whole collection, or why none began
-pub record Collects (z : Sizes) (budget : ℕ) (header : Header) (old new : List Entry) (before now : Holdings) (r : Reply) : Type 0 where
+-- a command of the collector was played
+pub record Collects (z : Sizes) (budget : ℕ) (header : Header) (old new : List Entry) (before now : Holdings) (what : GcCmd) (r : Reply) : Type 0 where
   pub piece : List Entry
   pub grown : new ≡ old ++ piece
-  pub calls : CollectorPiece budget header (state_of old) cmd.GcFull piece
-  pub answer : r ≡ full_reply (run (state_of old) piece).world (first_begin piece)
+  pub turn : GcTurn budget header (state_of old) what piece r
   pub kinds : (after new).kinds ≡ (after old).kinds
-  pub legal : Legal z new
   pub opened : (after new).opened ≡ (after old).opened
   pub held : KeepsHeld before now
+  pub told : HasText header.classes.classes r
+
+-- some of its calls were made
+pub record CollectsSome (z : Sizes) (budget : ℕ) (old new : List Entry) (what : GcCmd) : Type 0 where
+  pub part : List Entry
+  pub grown : new ≡ old ++ part
+  pub made : GcPart budget (state_of old) what part
+  pub legal : Legal z new

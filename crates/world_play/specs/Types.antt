@@ -32,10 +32,12 @@ pub use Rattle.world_model.specs.declared.act.Entry.{Entry}
 pub use Rattle.world_play.specs.declared.reply.Reply.{Reply}
 pub use Rattle.world_play.specs.declared.reply.Reply.TheVariants as reply
 pub use Rattle.level_script.specs.declared.script.Line.{Line}
-pub use Rattle.level_script.specs.declared.script.Who.{Who}
-pub use Rattle.level_script.specs.declared.script.Who.TheVariants as who
 pub use Rattle.level_script.specs.declared.script.Cmd.{Cmd}
 pub use Rattle.level_script.specs.declared.script.Cmd.TheVariants as cmd
+pub use Rattle.level_script.specs.declared.script.LaneCmd.{LaneCmd}
+pub use Rattle.level_script.specs.declared.script.LaneCmd.TheVariants as lane_cmd
+pub use Rattle.level_script.specs.declared.script.GcCmd.{GcCmd}
+pub use Rattle.level_script.specs.declared.script.GcCmd.TheVariants as gc_cmd
 pub use Rattle.level_script.specs.declared.script.Spot.{Spot}
 pub use Rattle.class_schema.specs.declared.field.Field.{Field}
 pub use Rattle.class_schema.specs.declared.field.FieldKind.{FieldKind}

@@ -1,24 +1,23 @@
-//! The lines of lanes that name an element of a field, and the line that tells an object.
+//! The commands of lanes that name an element of a field.
 ghost use Rattle.std.specs.Prelude.{◌≡◌, ◌+◌, ◌^◌, ◌<◌, ◌≤◌, ◌-◌, ℕ, true, false, IsTrue, length, option_map, option_and_then, Some, IfSome, IfOk};
 ghost use Rattle.class_schema.specs.Ancestry.{is_a};
-ghost use Rattle.level_script.specs.Frames.{fits_target};
-ghost use Rattle.world_play.specs.Variables.{lane_ref};
+ghost use Rattle.world_play.specs.Variables.{standing, shown, HasVariable, AreHeld};
 ghost use Rattle.class_schema.specs.Layout.{is_ref};
 ghost use Rattle.world_model.specs.World.{refs_of, plain_of};
 ghost use Rattle.world_model.specs.Histories.{after};
 ghost use Rattle.world_model.specs.Engines.{IsInFrame, KeepsHeld};
-ghost use Rattle.world_play.specs.Types.who;
 ghost use Rattle.world_play.specs.Types.cmd;
+ghost use Rattle.world_play.specs.Types.lane_cmd;
 ghost use Rattle.world_play.specs.Spots.{is_int, kind_at, spot_at, may_refer};
 ghost use Rattle.class_schema.specs.Class.{Schema};
 ghost use Rattle.class_schema.specs.Lawful.{IsSchema};
-ghost use Rattle.world_play.specs.Turns.{IsReady, Turned, AreMade};
+ghost use Rattle.world_play.specs.Turns.{IsReady, LaneDid, AreMade};
 ghost use Rattle.class_schema.specs.Lawful.{has_target};
 ghost use Rattle.world_play.specs.Cells.{FindsField, FitsObject, FindsElement, FindsCell};
 
 use crate::header::Header;
 use crate::reply::Reply;
-use crate::variables::LaneVariables;
+use crate::variables::Variables;
 use level_script::{Field, FieldKind, Spot};
 use world_model::{Engine, Name, Ref, Shape};
 
@@ -214,33 +213,31 @@ fn name_of(at: Option<Ref>) -> Option<Name>
 }
 
 /// The object of the value of `set`: that of a variable, or none.
-fn value_of(variables: &LaneVariables, to: Option<u32>) -> Option<Ref>
-    requires { IsTrue (fits_target (length variables.now.slots.items) to) }
-    ensures { result ≡ option_and_then (lane_ref variables.now) to }
+fn value_of(variables: &Variables, lane: u32, to: Option<u32>) -> Option<Ref>
+    requires { IfSome to (HasVariable (standing variables.now) lane) }
+    ensures { result ≡ option_and_then ((standing variables.now).refs lane) to }
 {
     match to {
-        Some(var) => variables.get(var),
+        Some(var) => variables.get(lane, var),
         None => None,
     }
 }
 
-/// `set SPOT V` and `set SPOT none`, behind so many lines.
+/// `set SPOT V` and `set SPOT none`.
 pub(crate) fn set<S: Shape, E: Engine<S>>(
     engine: &mut E,
     header: &Header<'_>,
-    lanes: &[LaneVariables],
-    played: usize,
+    variables: &Variables,
     lane: u32,
     spot: Spot,
     to: Option<u32>,
 ) -> Reply
-    requires { IsReady S.sizes (E.history engine.old) (E.holds engine.old) lanes.now played header.now (who.Lane lane) (cmd.Set spot to) }
-    ensures { (budget : ℕ) → Turned S.sizes budget header.now (E.history engine.old) (E.history engine.new) (E.holds engine.new) lanes.now lanes.now played (who.Lane lane) (cmd.Set spot to) result }
+    requires { IsReady S.sizes (E.history engine.old) (E.holds engine.old) (standing variables.now) header.now (cmd.Lane lane (lane_cmd.Set spot to)) }
+    ensures did { LaneDid header.now (E.history engine.old) (E.history engine.new) (shown (standing variables.now)) (shown (standing variables.now)) lane (lane_cmd.Set spot to) result }
+    ensures held { KeepsHeld (E.holds engine.old) (E.holds engine.new) }
 {
-    let _ = played;
-    let variables = &lanes[lane as usize];
-    let at = variables.get(spot.var);
-    let value = value_of(variables, to);
+    let at = variables.get(lane, spot.var);
+    let value = value_of(variables, lane, to);
     let cell = match find_ref::<S, E>(engine, header, lane, at, spot) {
         Ok(cell) => cell,
         Err(refusal) => return refusal,
@@ -252,49 +249,48 @@ pub(crate) fn set<S: Shape, E: Engine<S>>(
     Reply::Was(lane, name_of(old))
 }
 
-/// `get V SPOT`, behind so many lines.
+/// `get V SPOT`.
 pub(crate) fn get<S: Shape, E: Engine<S>>(
     engine: &mut E,
     header: &Header<'_>,
-    lanes: &mut [LaneVariables],
-    played: usize,
+    variables: &mut Variables,
     lane: u32,
     var: u32,
     spot: Spot,
 ) -> Reply
-    requires { IsReady S.sizes (E.history engine.old) (E.holds engine.old) lanes.old played header.now (who.Lane lane) (cmd.Get var spot) }
-    ensures { (budget : ℕ) → Turned S.sizes budget header.now (E.history engine.old) (E.history engine.new) (E.holds engine.new) lanes.old lanes.new played (who.Lane lane) (cmd.Get var spot) result }
+    requires { IsReady S.sizes (E.history engine.old) (E.holds engine.old) (standing variables.old) header.now (cmd.Lane lane (lane_cmd.Get var spot)) }
+    ensures did { LaneDid header.now (E.history engine.old) (E.history engine.new) (shown (standing variables.old)) (shown (standing variables.new)) lane (lane_cmd.Get var spot) result }
+    ensures held { AreHeld (E.holds engine.new) (standing variables.new) }
+    ensures counts { (standing variables.new).counts ≡ (standing variables.old).counts }
 {
-    let _ = played;
-    let at = lanes[lane as usize].get(spot.var);
+    let at = variables.get(lane, spot.var);
     match find_ref::<S, E>(engine, header, lane, at, spot) {
         Ok(cell) => {
             let got = engine.read_ref(lane, cell.at, cell.slot);
-            lanes[lane as usize].bind(var, got);
+            variables.bind(lane, var, got);
             Reply::Is(lane, name_of(got))
         }
         Err(refusal) => {
-            lanes[lane as usize].bind(var, None);
+            variables.bind(lane, var, None);
             refusal
         }
     }
 }
 
-/// `put SPOT N`, behind so many lines.
+/// `put SPOT N`.
 pub(crate) fn put<S: Shape, E: Engine<S>>(
     engine: &mut E,
     header: &Header<'_>,
-    lanes: &[LaneVariables],
-    played: usize,
+    variables: &Variables,
     lane: u32,
     spot: Spot,
     value: u64,
 ) -> Reply
-    requires { IsReady S.sizes (E.history engine.old) (E.holds engine.old) lanes.now played header.now (who.Lane lane) (cmd.Put spot value) }
-    ensures { (budget : ℕ) → Turned S.sizes budget header.now (E.history engine.old) (E.history engine.new) (E.holds engine.new) lanes.now lanes.now played (who.Lane lane) (cmd.Put spot value) result }
+    requires { IsReady S.sizes (E.history engine.old) (E.holds engine.old) (standing variables.now) header.now (cmd.Lane lane (lane_cmd.Put spot value)) }
+    ensures did { LaneDid header.now (E.history engine.old) (E.history engine.new) (shown (standing variables.now)) (shown (standing variables.now)) lane (lane_cmd.Put spot value) result }
+    ensures held { KeepsHeld (E.holds engine.old) (E.holds engine.new) }
 {
-    let _ = played;
-    let at = lanes[lane as usize].get(spot.var);
+    let at = variables.get(lane, spot.var);
     match find_int::<S, E>(engine, header, lane, at, spot) {
         Ok(cell) => {
             let old = engine.write_plain(lane, cell.at, cell.slot, value);
@@ -304,45 +300,24 @@ pub(crate) fn put<S: Shape, E: Engine<S>>(
     }
 }
 
-/// `take SPOT`, behind so many lines.
+/// `take SPOT`.
 pub(crate) fn take<S: Shape, E: Engine<S>>(
     engine: &mut E,
     header: &Header<'_>,
-    lanes: &[LaneVariables],
-    played: usize,
+    variables: &Variables,
     lane: u32,
     spot: Spot,
 ) -> Reply
-    requires { IsReady S.sizes (E.history engine.old) (E.holds engine.old) lanes.now played header.now (who.Lane lane) (cmd.Take spot) }
-    ensures { (budget : ℕ) → Turned S.sizes budget header.now (E.history engine.old) (E.history engine.new) (E.holds engine.new) lanes.now lanes.now played (who.Lane lane) (cmd.Take spot) result }
+    requires { IsReady S.sizes (E.history engine.old) (E.holds engine.old) (standing variables.now) header.now (cmd.Lane lane (lane_cmd.Take spot)) }
+    ensures did { LaneDid header.now (E.history engine.old) (E.history engine.new) (shown (standing variables.now)) (shown (standing variables.now)) lane (lane_cmd.Take spot) result }
+    ensures held { KeepsHeld (E.holds engine.old) (E.holds engine.new) }
 {
-    let _ = played;
-    let at = lanes[lane as usize].get(spot.var);
+    let at = variables.get(lane, spot.var);
     match find_int::<S, E>(engine, header, lane, at, spot) {
         Ok(cell) => {
             let got = engine.read_plain(lane, cell.at, cell.slot);
             Reply::IsNumber(lane, got)
         }
         Err(refusal) => refusal,
-    }
-}
-
-/// `print V`, behind so many lines.
-pub(crate) fn print<S: Shape, E: Engine<S>>(
-    engine: &mut E,
-    header: &Header<'_>,
-    lanes: &[LaneVariables],
-    played: usize,
-    lane: u32,
-    var: u32,
-) -> Reply
-    requires { IsReady S.sizes (E.history engine.old) (E.holds engine.old) lanes.now played header.now (who.Lane lane) (cmd.Print var) }
-    ensures { (budget : ℕ) → Turned S.sizes budget header.now (E.history engine.old) (E.history engine.new) (E.holds engine.new) lanes.now lanes.now played (who.Lane lane) (cmd.Print var) result }
-{
-    let _ = played;
-    let _ = header;
-    match lanes[lane as usize].get(var) {
-        Some(at) => Reply::Object(lane, at.name, engine.kind_of(lane, at).class),
-        None => Reply::NoObject(lane),
     }
 }

@@ -1,18 +1,15 @@
-//! Whole collections.
-ghost use Rattle.std.specs.Prelude.{◌≡◌, ◌≢◌, ◌≤◌, length, IfOk, OnErr};
+//! The commands of the collector.
+ghost use Rattle.std.specs.Prelude.{◌≡◌, ◌≤◌, length, IfOk, OnErr};
 ghost use Rattle.world_model.specs.Histories.{after};
 ghost use Rattle.world_model.specs.Engines.{KeepsHeld};
-ghost use Rattle.world_model.specs.World.{World, left_of};
-ghost use Rattle.world_play.specs.Types.begin;
-ghost use Rattle.world_play.specs.Types.cmd;
-ghost use Rattle.world_play.specs.Types.who;
-ghost use Rattle.world_play.specs.Plays.{Bindings, full_reply};
-ghost use Rattle.world_play.specs.Stages.{IsMarking, Marks, IsGathering, Finds, FindsSome, HasSwept, Destroys, GoesOn, GoesOnSome, Collects};
-ghost use Rattle.world_play.specs.Turns.{Broken};
+ghost use Rattle.world_model.specs.World.{left_of};
+ghost use Rattle.world_play.specs.Types.gc_cmd;
+ghost use Rattle.world_play.specs.Stages.{IsMarking, Marks, IsGathering, Finds, FindsSome, HasSwept, Destroys, GoesOn, GoesOnSome, Collects, CollectsSome};
 
 use crate::header::Header;
 use crate::hooks::ClassHooks;
 use crate::reply::Reply;
+use level_script::GcCmd;
 use std::alloc::{AllocError, Global};
 use world_model::{Begin, Engine, MarkStop, Name, Names, Purged, Shape, SweepStop};
 
@@ -61,19 +58,6 @@ fn sweep_all<S: Shape, E: Engine<S>>(
             SweepStop::More => {}
             _ => return Ok(found),
         }
-    }
-}
-
-/// Why no collection began.
-fn refusal(why: Begin) -> Reply
-    requires { why ≢ begin.Started }
-    ensures { (w : World) → result ≡ full_reply w why }
-{
-    match why {
-        Begin::Started => Reply::Pending(0),
-        Begin::Running(phase) => Reply::Running(phase),
-        Begin::Purging(left) => Reply::Purging(left),
-        Begin::Frames(frames) => Reply::Pending(frames),
     }
 }
 
@@ -134,18 +118,37 @@ fn go_on<S: Shape, E: Engine<S>>(
 }
 
 /// `gc full`, in slices of so many objects, items or steps.
-pub(crate) fn full<S: Shape, E: Engine<S>>(
+fn full<S: Shape, E: Engine<S>>(
     alloc: Global,
     engine: &mut E,
     header: &Header<'_>,
     budget: u32,
 ) -> Result<Reply, AllocError>
     requires some { 1 ≤ budget }
-    ensures all { IfOk result (λ reply. Collects S.sizes budget header.now (E.history engine.old) (E.history engine.new) (E.holds engine.old) (E.holds engine.new) reply) }
-    ensures some { OnErr result ((names : Bindings) → Broken S.sizes budget header.now (E.history engine.old) (E.history engine.new) names who.Gc cmd.GcFull) }
+    ensures all { IfOk result (λ reply. Collects S.sizes budget header.now (E.history engine.old) (E.history engine.new) (E.holds engine.old) (E.holds engine.new) gc_cmd.Full reply) }
+    ensures some { OnErr result (CollectsSome S.sizes budget (E.history engine.old) (E.history engine.new) gc_cmd.Full) }
 {
     match engine.begin() {
         Begin::Started => go_on::<S, E>(alloc, engine, header, budget),
-        why => Ok(refusal(why)),
+        Begin::Running(phase) => Ok(Reply::Running(phase)),
+        Begin::Purging(left) => Ok(Reply::Purging(left)),
+        Begin::Frames(frames) => Ok(Reply::Pending(frames)),
+    }
+}
+
+/// Plays a command of the collector, in slices of so many objects, items or steps.
+pub(crate) fn gc_turn<S: Shape, E: Engine<S>>(
+    alloc: Global,
+    engine: &mut E,
+    header: &Header<'_>,
+    budget: u32,
+    cmd: &GcCmd,
+) -> Result<Reply, AllocError>
+    requires some { 1 ≤ budget }
+    ensures all { IfOk result (λ reply. Collects S.sizes budget header.now (E.history engine.old) (E.history engine.new) (E.holds engine.old) (E.holds engine.new) cmd.now reply) }
+    ensures some { OnErr result (CollectsSome S.sizes budget (E.history engine.old) (E.history engine.new) cmd.now) }
+{
+    match cmd {
+        GcCmd::Full => full::<S, E>(alloc, engine, header, budget),
     }
 }

@@ -1,6 +1,6 @@
 //! What the objects of a script do when they are destroyed.
 ghost use Rattle.std.specs.Prelude.{◌≡◌, None};
-ghost use Rattle.world_play.specs.Plays.{is_ready};
+ghost use Rattle.world_play.specs.Collections.{is_ready};
 
 use level_script::ClassTable;
 use world_model::{ClassId, Hooks, Name, Ready};
@@ -14,7 +14,7 @@ pub struct ClassHooks<'a> {
 
 impl Hooks for ClassHooks<'_> {
     ghost use Rattle.std.specs.Prelude.{◌≡◌, None};
-    ghost use Rattle.world_play.specs.Plays.{is_ready};
+    ghost use Rattle.world_play.specs.Collections.{is_ready};
 
     ghost calls = { λ _. None };
 

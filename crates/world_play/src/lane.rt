@@ -1,15 +1,18 @@
-//! The lines of lanes.
-ghost use Rattle.std.specs.Prelude.{◌≡◌, ℕ, length, Some};
-ghost use Rattle.world_play.specs.Types.{Reply};
-ghost use Rattle.world_play.specs.Types.who;
+//! The commands of lanes that name no element of a field.
+ghost use Rattle.std.specs.Prelude.{◌≡◌, length};
+ghost use Rattle.world_model.specs.Engines.{IsInFrame, KeepsHeld};
+ghost use Rattle.world_play.specs.Header.{Header};
 ghost use Rattle.world_play.specs.Types.cmd;
-ghost use Rattle.world_model.specs.Engines.{act_of_refusal};
-ghost use Rattle.world_play.specs.Plays.{lane_reply};
-ghost use Rattle.world_play.specs.Turns.{IsReady, Turned};
+ghost use Rattle.world_play.specs.Types.lane_cmd;
+ghost use Rattle.world_play.specs.Lanes.{no_room};
+ghost use Rattle.world_play.specs.Turns.{IsReady, LaneDid};
+ghost use Rattle.world_play.specs.Variables.{standing, shown, HasVariable, AreHeld};
 
+use crate::cells::{get, put, set, take};
 use crate::header::Header;
 use crate::reply::Reply;
-use crate::variables::LaneVariables;
+use crate::variables::Variables;
+use level_script::LaneCmd;
 use world_model::{ClassId, CreateErr, Engine, Name, Ref, Shape};
 
 /// What stands in a buffer before an object is made.
@@ -18,44 +21,8 @@ const NO_REF: Ref = Ref {
     name: Name { lane: 0, count: 0 },
 };
 
-/// `open`, behind so many lines.
-pub(crate) fn open<S: Shape, E: Engine<S>>(
-    engine: &mut E,
-    header: &Header<'_>,
-    lanes: &[LaneVariables],
-    played: usize,
-    lane: u32,
-) -> Reply
-    requires { IsReady S.sizes (E.history engine.old) (E.holds engine.old) lanes.now played header.now (who.Lane lane) cmd.Open }
-    ensures { (budget : ℕ) → Turned S.sizes budget header.now (E.history engine.old) (E.history engine.new) (E.holds engine.new) lanes.now lanes.now played (who.Lane lane) cmd.Open result }
-{
-    let _ = header;
-    let _ = lanes;
-    let _ = played;
-    let phase = engine.open_frame(lane);
-    Reply::Opened(lane, phase)
-}
-
-/// `close`, behind so many lines.
-pub(crate) fn close<S: Shape, E: Engine<S>>(
-    engine: &mut E,
-    header: &Header<'_>,
-    lanes: &mut [LaneVariables],
-    played: usize,
-    lane: u32,
-) -> Reply
-    requires { IsReady S.sizes (E.history engine.old) (E.holds engine.old) lanes.old played header.now (who.Lane lane) cmd.Close }
-    ensures { (budget : ℕ) → Turned S.sizes budget header.now (E.history engine.old) (E.history engine.new) (E.holds engine.new) lanes.old lanes.new played (who.Lane lane) cmd.Close result }
-{
-    let _ = header;
-    let _ = played;
-    engine.close_frame(lane);
-    lanes[lane as usize].end();
-    Reply::Closed(lane)
-}
-
-fn refusal(lane: u32, why: CreateErr) -> Reply
-    ensures { (silent : Reply) → result ≡ lane_reply lane silent (Some (act_of_refusal 1 why)) }
+fn no_room(lane: u32, why: CreateErr) -> Reply
+    ensures { result ≡ no_room lane why }
 {
     match why {
         CreateErr::Full { free } => Reply::Full(lane, free),
@@ -63,53 +30,100 @@ fn refusal(lane: u32, why: CreateErr) -> Reply
     }
 }
 
-/// `root V on` or `root V off`, behind so many lines.
-pub(crate) fn root<S: Shape, E: Engine<S>>(
+/// `new V CLASS`.
+fn make<S: Shape, E: Engine<S>>(
     engine: &mut E,
     header: &Header<'_>,
-    lanes: &[LaneVariables],
-    played: usize,
-    lane: u32,
-    var: u32,
-    on: bool,
-) -> Reply
-    requires { IsReady S.sizes (E.history engine.old) (E.holds engine.old) lanes.now played header.now (who.Lane lane) (cmd.Root var on) }
-    ensures { (budget : ℕ) → Turned S.sizes budget header.now (E.history engine.old) (E.history engine.new) (E.holds engine.new) lanes.now lanes.now played (who.Lane lane) (cmd.Root var on) result }
-{
-    let _ = header;
-    let _ = played;
-    let Some(at) = lanes[lane as usize].get(var) else {
-        return Reply::NoObject(lane);
-    };
-    let was = engine.set_root(lane, at, on);
-    Reply::WasRoot(lane, was)
-}
-
-/// `new V CLASS`, behind so many lines.
-pub(crate) fn make<S: Shape, E: Engine<S>>(
-    engine: &mut E,
-    header: &Header<'_>,
-    lanes: &mut [LaneVariables],
-    played: usize,
+    variables: &mut Variables,
     lane: u32,
     var: u32,
     class: ClassId,
 ) -> Reply
-    requires { IsReady S.sizes (E.history engine.old) (E.holds engine.old) lanes.old played header.now (who.Lane lane) (cmd.New var class) }
-    ensures { (budget : ℕ) → Turned S.sizes budget header.now (E.history engine.old) (E.history engine.new) (E.holds engine.new) lanes.old lanes.new played (who.Lane lane) (cmd.New var class) result }
+    requires { IsReady S.sizes (E.history engine.old) (E.holds engine.old) (standing variables.old) header.now (cmd.Lane lane (lane_cmd.New var class)) }
+    ensures did { LaneDid header.now (E.history engine.old) (E.history engine.new) (shown (standing variables.old)) (shown (standing variables.new)) lane (lane_cmd.New var class) result }
+    ensures held { AreHeld (E.holds engine.new) (standing variables.new) }
+    ensures counts { (standing variables.new).counts ≡ (standing variables.old).counts }
 {
-    let _ = played;
     let kind = header.classes.kind(class);
     let mut out = [NO_REF];
     match engine.create(lane, &[kind], &mut out) {
         Ok(()) => {
             let at = out[0];
-            lanes[lane as usize].bind(var, Some(at));
+            variables.bind(lane, var, Some(at));
             Reply::New(lane, at.name)
         }
         Err(why) => {
-            lanes[lane as usize].bind(var, None);
-            refusal(lane, why)
+            variables.bind(lane, var, None);
+            no_room(lane, why)
         }
+    }
+}
+
+/// `root V on` or `root V off`.
+fn root<S: Shape, E: Engine<S>>(
+    engine: &mut E,
+    variables: &Variables,
+    lane: u32,
+    var: u32,
+    on: bool,
+) -> Reply
+    requires frame { IsInFrame S.sizes (E.history engine.old) lane }
+    requires var { HasVariable (standing variables.now) lane var }
+    requires held { AreHeld (E.holds engine.old) (standing variables.now) }
+    ensures did { (header : Header) → LaneDid header (E.history engine.old) (E.history engine.new) (shown (standing variables.now)) (shown (standing variables.now)) lane (lane_cmd.Root var on) result }
+    ensures held { KeepsHeld (E.holds engine.old) (E.holds engine.new) }
+{
+    match variables.get(lane, var) {
+        Some(at) => Reply::WasRoot(lane, engine.set_root(lane, at, on)),
+        None => Reply::NoObject(lane),
+    }
+}
+
+/// `print V`.
+fn print<S: Shape, E: Engine<S>>(
+    engine: &mut E,
+    variables: &Variables,
+    lane: u32,
+    var: u32,
+) -> Reply
+    requires frame { IsInFrame S.sizes (E.history engine.old) lane }
+    requires var { HasVariable (standing variables.now) lane var }
+    requires held { AreHeld (E.holds engine.old) (standing variables.now) }
+    ensures did { (header : Header) → LaneDid header (E.history engine.old) (E.history engine.new) (shown (standing variables.now)) (shown (standing variables.now)) lane (lane_cmd.Print var) result }
+    ensures held { KeepsHeld (E.holds engine.old) (E.holds engine.new) }
+{
+    match variables.get(lane, var) {
+        Some(at) => Reply::Object(lane, at.name, engine.kind_of(lane, at).class),
+        None => Reply::NoObject(lane),
+    }
+}
+
+/// Plays a command of a lane.
+pub(crate) fn lane_turn<S: Shape, E: Engine<S>>(
+    engine: &mut E,
+    header: &Header<'_>,
+    variables: &mut Variables,
+    lane: u32,
+    what: &LaneCmd,
+) -> Reply
+    requires { IsReady S.sizes (E.history engine.old) (E.holds engine.old) (standing variables.old) header.now (cmd.Lane lane what.now) }
+    ensures did { LaneDid header.now (E.history engine.old) (E.history engine.new) (shown (standing variables.old)) (shown (standing variables.new)) lane what.now result }
+    ensures held { AreHeld (E.holds engine.new) (standing variables.new) }
+    ensures counts { (standing variables.new).counts ≡ (standing variables.old).counts }
+{
+    match what {
+        LaneCmd::Open => Reply::Opened(lane, engine.open_frame(lane)),
+        LaneCmd::Close => {
+            engine.close_frame(lane);
+            variables.end(lane);
+            Reply::Closed(lane)
+        }
+        LaneCmd::New { var, class } => make::<S, E>(engine, header, variables, lane, *var, *class),
+        LaneCmd::Root { var, on } => root::<S, E>(engine, variables, lane, *var, *on),
+        LaneCmd::Set { spot, to } => set::<S, E>(engine, header, variables, lane, *spot, *to),
+        LaneCmd::Get { var, spot } => get::<S, E>(engine, header, variables, lane, *var, *spot),
+        LaneCmd::Put { spot, value } => put::<S, E>(engine, header, variables, lane, *spot, *value),
+        LaneCmd::Take { spot } => take::<S, E>(engine, header, variables, lane, *spot),
+        LaneCmd::Print { var } => print::<S, E>(engine, variables, lane, *var),
     }
 }

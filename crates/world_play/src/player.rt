@@ -3,41 +3,43 @@ ghost use Rattle.std.specs.Prelude.{◌≡◌, ◌≤◌, true, false, [], lengt
 ghost use Rattle.level_script.specs.Frames.{are_framed};
 ghost use Rattle.world_play.specs.Streams.{PutCounts};
 ghost use Rattle.world_play.specs.Turns.{IsReady, Answered, Unanswered, Played, Stopped};
-ghost use Rattle.world_play.specs.Variables.{shown};
+ghost use Rattle.world_play.specs.Variables.{standing, shown};
 ghost use Rattle.class_schema.specs.Lawful.{IsSchema};
 
 use crate::header::Header;
 use crate::stream::put_all;
-use crate::text;
+use crate::text::push_line;
 use crate::turn::turn;
-use crate::variables::{LaneVariables, unbound};
+use crate::variables::Variables;
 use level_script::Line;
 use play_io::{PutErr, Sink};
 use std::alloc::Global;
 use world_model::{Engine, Shape};
 
-/// Plays a line, behind so many lines, and puts the text of its reply as one piece.
+/// Plays a line, and puts the text of its reply as one piece. The text is written into a buffer,
+/// whatever stands in it.
 fn play_line<S: Shape, E: Engine<S>, K: Sink>(
     alloc: Global,
     engine: &mut E,
     header: &Header<'_>,
-    lanes: &mut [LaneVariables],
-    played: usize,
+    variables: &mut Variables,
     budget: u32,
-    line: Line,
+    line: &Line,
+    text: &mut String,
     out: &mut K,
 ) -> Result<(), PutErr>
     requires some { 1 ≤ budget }
-    requires ready { IsReady S.sizes (E.history engine.old) (E.holds engine.old) lanes.old played header.now line.who line.cmd }
+    requires ready { IsReady S.sizes (E.history engine.old) (E.holds engine.old) (standing variables.old) header.now line.now.cmd }
     ensures faults { PutCounts (K.faults out.old) (K.faults out.new) result }
-    ensures answered { OnOk result (Answered S.sizes budget header.now (E.history engine.old) (E.history engine.new) (E.holds engine.new) lanes.old lanes.new played line (K.held out.old) (K.held out.new)) }
-    ensures unanswered { OnErr result (Unanswered S.sizes budget header.now (E.history engine.old) (E.history engine.new) (shown lanes.old) line (K.held out.old) (K.held out.new)) }
+    ensures answered { OnOk result (Answered S.sizes budget header.now (E.history engine.old) (E.history engine.new) (E.holds engine.new) (standing variables.old) (standing variables.new) line.now (K.held out.old) (K.held out.new)) }
+    ensures unanswered { OnErr result (Unanswered S.sizes budget header.now (E.history engine.old) (E.history engine.new) (shown (standing variables.old)) line.now (K.held out.old) (K.held out.new)) }
 {
-    let Ok(reply) = turn::<S, E>(alloc, engine, header, lanes, played, budget, line) else {
+    let Ok(reply) = turn::<S, E>(alloc, engine, header, variables, budget, &line.cmd) else {
         return Err(PutErr::Memory);
     };
     engine.lawful();
-    let Ok(text) = text::line(alloc, header.classes, &reply) else {
+    text.clear();
+    let Ok(()) = push_line(text, header.classes, &reply) else {
         return Err(PutErr::Memory);
     };
     put_all(out, text.as_bytes())
@@ -67,13 +69,21 @@ pub fn play<S: Shape, E: Engine<S>, K: Sink>(
     ensures written { OnOk result (written.new ≡ length lines.now) }
     ensures stopped { OnErr result (Stopped S.sizes budget header.now lines.now (E.history engine.new) (K.held out.old) (K.held out.new) written.new) }
 {
-    let Ok(mut variables) = unbound(alloc, counts) else {
+    let Ok(mut variables) = Variables::new(alloc, counts) else {
         return Err(PutErr::Memory);
     };
-    let lanes = variables.as_mut_slice();
-    for played in 0..lines.len() {
-        let line = lines[played];
-        play_line::<S, E, K>(alloc, engine, header, lanes, played, budget, line, out)?;
+    let mut text = String::new(alloc);
+    for line in lines {
+        play_line::<S, E, K>(
+            alloc,
+            engine,
+            header,
+            &mut variables,
+            budget,
+            line,
+            &mut text,
+            out,
+        )?;
         *written += 1;
     }
     engine.lawful();

@@ -1,9 +1,9 @@
 //! The top call.
-ghost use Rattle.std.specs.Prelude.{◌≡◌, ◌≢◌, ◌≤◌, ◌↔◌, ◌⊎◌, None, IfSome, IfOk, IfErr, OnOk, Some, option_map};
+ghost use Rattle.std.specs.Prelude.{◌≡◌, ◌≢◌, ◌≤◌, ◌↔◌, ◌⊎◌, [], None, IfSome, IfOk, IfErr, OnOk, Some, option_map};
 ghost use Rattle.level_script.specs.Frames.{IsPlayable};
 ghost use Rattle.level_script.specs.Context.{AreLawful};
 ghost use Rattle.world_play.specs.Words.{sizes_of};
-ghost use Rattle.world_play.specs.Ends.{said, shape_said, limits_of, limits_in, history_of, HasShape, WasTaken, IsScript, Refuses, IsBefore, WritesFault, HasRun, WasPlayed, OnDone, OnStopped, OnNone, NamesFault, SaysTaken, SaysRead, SaysWrite, EndsWell, EndsEarly, KeepsPromise, RunKeepsPromise, WritesOutcome, CountsLines, TellsScript, Completes, IsSure};
+ghost use Rattle.world_play.specs.Ends.{said, shape_said, limits_of, limits_in, history_of, HasShape, WasTaken, IsScript, Refuses, IsBefore, WritesFault, HasRun, PlayedBy, WasPlayed, OnDone, OnStopped, OnNone, NamesFault, SaysTaken, SaysRead, SaysWrite, EndsWell, EndsEarly, KeepsPromise, RunKeepsPromise, WritesOutcome, CountsLines, TellsScript, Completes, IsSure};
 ghost use Rattle.world_play.specs.declared.status.Status.TheVariants as status;
 
 use crate::header::Header;
@@ -41,12 +41,11 @@ pub struct Ended {
     pub run: Option<Run>,
 }
 
-/// How a script was played in one shape.
-#[derive(Drop)]
-struct Performed<S: Shape> {
+/// How a script was played.
+#[derive(Clone, Copy)]
+struct Performed {
     status: Status,
     lines: u64,
-    engine: Option<PlainHeap<S>>,
 }
 
 // A run that never had an engine.
@@ -60,6 +59,19 @@ fn without_run(status: Status) -> Ended
         status,
         lines: 0,
         run: None,
+    }
+}
+
+// A run of this engine.
+fn with_run(done: Performed, engine: Run) -> Ended
+    ensures status { result.status ≡ done.status }
+    ensures lines { result.lines ≡ done.lines }
+    ensures run { result.run ≡ Some engine }
+{
+    Ended {
+        status: done.status,
+        lines: done.lines,
+        run: Some(engine),
     }
 }
 
@@ -105,58 +117,48 @@ fn read_script<S: Source>(alloc: Global, source: &mut S, limits: Limits) -> Resu
     }
 }
 
-// Plays a script on a new heap, with slices of so many objects, items or steps.
-fn perform<S: Shape, K: Sink>(
+// Plays a script on a new engine, with slices of so many objects, items or steps.
+fn perform<S: Shape, E: Engine<S>, K: Sink>(
     alloc: Global,
+    engine: &mut E,
     script: &Script,
     slice: u32,
     out: &mut K,
-) -> Performed<S>
+) -> Performed
     requires some { 1 ≤ slice }
     requires playable { IsPlayable (limits_of S.sizes) script.now }
+    requires start { E.history engine.old ≡ [] }
     ensures write { WritesFault (K.faults out.old) (K.faults out.new) result.status }
-    ensures run { HasRun result.status result.engine }
-    ensures promise { IfSome result.engine (λ heap. KeepsPromise S.sizes heap.history) }
-    ensures played { WasPlayed S.sizes slice result.status script.now (option_map (λ heap. heap.history) result.engine) (K.held out.old) (K.held out.new) result.lines }
-    ensures unplayed { OnNone result.engine (out.new ≡ out.old) }
+    ensures promise { KeepsPromise S.sizes (E.history engine.new) }
+    ensures played { PlayedBy S.sizes slice result.status script.now (E.history engine.new) (K.held out.old) (K.held out.new) result.lines }
 {
-    let Ok(mut engine) = PlainHeap::<S>::new(alloc) else {
-        return Performed {
-            status: Status::Memory,
-            lines: 0,
-            engine: None,
-        };
-    };
     let header = Header {
         classes: &script.classes,
         fields: &script.fields,
     };
     script.classes.lawful();
     let mut lines = 0;
-    let status = match play::<S, PlainHeap<S>, K>(
+    let played = play::<S, E, K>(
         alloc,
-        &mut engine,
+        engine,
         &header,
         script.lines.as_slice(),
         script.vars.as_slice(),
         slice,
         out,
         &mut lines,
-    ) {
+    );
+    let status = match played {
         Ok(()) => Status::Ok,
         Err(PutErr::Failed) => Status::WriteFault,
         Err(PutErr::Memory) => Status::Memory,
     };
     engine.lawful();
     headline();
-    Performed {
-        status,
-        lines,
-        engine: Some(engine),
-    }
+    Performed { status, lines }
 }
 
-// Plays a script in the shape that the words name.
+// Plays a script on a new engine of the shape that the words name.
 fn perform_in<K: Sink>(alloc: Global, script: &Script, words: Words, out: &mut K) -> Ended
     requires some { 1 ≤ words.slice }
     requires playable { IsPlayable (limits_in words.shape) script.now }
@@ -169,20 +171,30 @@ fn perform_in<K: Sink>(alloc: Global, script: &Script, words: Words, out: &mut K
 {
     match words.shape {
         ShapeName::Level => {
-            let done = perform::<Level, K>(alloc, script, words.slice, out);
-            Ended {
-                status: done.status,
-                lines: done.lines,
-                run: done.engine.map(Run::PlainLevel),
-            }
+            let Ok(mut engine) = PlainHeap::<Level>::new(alloc) else {
+                return without_run(Status::Memory);
+            };
+            let done = perform::<Level, PlainHeap<Level>, K>(
+                alloc,
+                &mut engine,
+                script,
+                words.slice,
+                out,
+            );
+            with_run(done, Run::PlainLevel(engine))
         }
         ShapeName::Small => {
-            let done = perform::<Small, K>(alloc, script, words.slice, out);
-            Ended {
-                status: done.status,
-                lines: done.lines,
-                run: done.engine.map(Run::PlainSmall),
-            }
+            let Ok(mut engine) = PlainHeap::<Small>::new(alloc) else {
+                return without_run(Status::Memory);
+            };
+            let done = perform::<Small, PlainHeap<Small>, K>(
+                alloc,
+                &mut engine,
+                script,
+                words.slice,
+                out,
+            );
+            with_run(done, Run::PlainSmall(engine))
         }
     }
 }

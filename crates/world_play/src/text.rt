@@ -1,12 +1,12 @@
-//! The text of a reply.
-ghost use Rattle.std.specs.Prelude.{◌≡◌, ◌++◌, IfOk, OnOk, string_bytes};
+//! The text of a reply, which is written behind what a buffer has.
+ghost use Rattle.std.specs.Prelude.{◌≡◌, ◌++◌, OnOk, string_bytes};
 ghost use Rattle.std.specs.Prelude.{codes, decimal, flat_map, length, ◌<◌, if◌then◌else◌};
 ghost use Rattle.world_play.specs.Types.reply;
 ghost use Rattle.world_play.specs.Text.{text_of, HasText, phase_text, object_text, name_text, names_text, full_text};
 
 use crate::reply::Reply;
 use level_script::ClassTable;
-use std::alloc::{AllocError, Global};
+use std::alloc::AllocError;
 use world_model::{ClassId, Name, Phase};
 
 fn phase_word(phase: Phase) -> &'static str
@@ -19,150 +19,149 @@ fn phase_word(phase: Phase) -> &'static str
     }
 }
 
-/// One more name, behind a space.
-fn push_name(alloc: Global, text: &mut String, name: Name) -> Result<(), AllocError>
-    ensures { OnOk result (string_bytes text.new ≡ string_bytes text.old ++ name_text name) }
+// Names, each behind a space.
+fn push_listed(text: &mut String, names: &[Name]) -> Result<(), AllocError>
+    ensures { OnOk result (string_bytes text.new ≡ string_bytes text.old ++ flat_map name_text names.now) }
 {
-    let word = format!(in alloc; " {}:{}", name.lane, name.count)?;
-    text.push_str(word.as_str())?;
+    for name in names {
+        write!(text, " {}:{}", name.lane, name.count)?;
+    }
     Ok(())
 }
 
-/// Names, each behind a space.
-fn listed(alloc: Global, names: &[Name]) -> Result<String, AllocError>
-    ensures { IfOk result (λ s. string_bytes s ≡ flat_map name_text names.now) }
-{
-    let mut text = String::new(alloc);
-    for name in names {
-        push_name(alloc, &mut text, *name)?;
-    }
-    Ok(text)
-}
-
-/// The names of a whole collection, if there are any.
-fn names(alloc: Global, names: &[Name]) -> Result<String, AllocError>
-    ensures { IfOk result (λ s. string_bytes s ≡ names_text names.now) }
+// The names of a whole collection, if there are any.
+fn push_names(text: &mut String, names: &[Name]) -> Result<(), AllocError>
+    ensures { OnOk result (string_bytes text.new ≡ string_bytes text.old ++ names_text names.now) }
 {
     if names.is_empty() {
-        return Ok(String::new(alloc));
+        return Ok(());
     }
-    let list = listed(alloc, names)?;
-    let list = list.as_str();
-    format!(in alloc; ":{list}")
+    text.push_str(":")?;
+    push_listed(text, names)
 }
 
-fn full(alloc: Global, removed: u32, left: u32, found: &[Name]) -> Result<String, AllocError>
-    ensures { IfOk result (λ s. string_bytes s ≡ full_text removed left found.now) }
+fn push_full(text: &mut String, removed: u32, left: u32, found: &[Name]) -> Result<(), AllocError>
+    ensures { OnOk result (string_bytes text.new ≡ string_bytes text.old ++ full_text removed left found.now) }
 {
-    let names = names(alloc, found)?;
-    let names = names.as_str();
-    format!(in alloc; "gc full removed {removed} left {left}{names}\n")
+    write!(text, "gc full removed {removed} left {left}")?;
+    push_names(text, found)?;
+    text.push_str("\n")?;
+    Ok(())
 }
 
-fn names_spent(alloc: Global, lane: u32, left: u64) -> Result<String, AllocError>
-    ensures { IfOk result (λ s. string_bytes s ≡ decimal lane ++ (codes " names spent " ++ (decimal left ++ codes "\n"))) }
+fn push_names_spent(text: &mut String, lane: u32, left: u64) -> Result<(), AllocError>
+    ensures { OnOk result (string_bytes text.new ≡ string_bytes text.old ++ decimal lane ++ (codes " names spent " ++ (decimal left ++ codes "\n"))) }
 {
-    format!(in alloc; "{lane} names spent {left}\n")
+    write!(text, "{lane} names spent {left}\n")
 }
 
-fn was_root(alloc: Global, lane: u32, was: bool) -> Result<String, AllocError>
-    ensures { IfOk result (λ s. string_bytes s ≡ decimal lane ++ (codes " was " ++ ((if was then codes "on" else codes "off") ++ codes "\n"))) }
+fn push_was_root(text: &mut String, lane: u32, was: bool) -> Result<(), AllocError>
+    ensures { OnOk result (string_bytes text.new ≡ string_bytes text.old ++ decimal lane ++ (codes " was " ++ ((if was then codes "on" else codes "off") ++ codes "\n"))) }
 {
     let word = if was { "on" } else { "off" };
-    format!(in alloc; "{lane} was {word}\n")
+    write!(text, "{lane} was {word}\n")
 }
 
-fn opened(alloc: Global, lane: u32, phase: Phase) -> Result<String, AllocError>
-    ensures { IfOk result (λ s. string_bytes s ≡ decimal lane ++ (codes " open " ++ (phase_text phase ++ codes "\n"))) }
+fn push_opened(text: &mut String, lane: u32, phase: Phase) -> Result<(), AllocError>
+    ensures { OnOk result (string_bytes text.new ≡ string_bytes text.old ++ decimal lane ++ (codes " open " ++ (phase_text phase ++ codes "\n"))) }
 {
     let word = phase_word(phase);
-    format!(in alloc; "{lane} open {word}\n")
+    write!(text, "{lane} open {word}\n")
 }
 
-fn running(alloc: Global, phase: Phase) -> Result<String, AllocError>
-    ensures { IfOk result (λ s. string_bytes s ≡ codes "gc running " ++ (phase_text phase ++ codes "\n")) }
+fn push_running(text: &mut String, phase: Phase) -> Result<(), AllocError>
+    ensures { OnOk result (string_bytes text.new ≡ string_bytes text.old ++ codes "gc running " ++ (phase_text phase ++ codes "\n")) }
 {
     let word = phase_word(phase);
-    format!(in alloc; "gc running {word}\n")
+    write!(text, "gc running {word}\n")
 }
 
-fn new(alloc: Global, lane: u32, name: Name) -> Result<String, AllocError>
-    ensures { IfOk result (λ s. string_bytes s ≡ decimal lane ++ (codes " new " ++ (decimal name.lane ++ (codes ":" ++ (decimal name.count ++ codes "\n"))))) }
+fn push_new(text: &mut String, lane: u32, name: Name) -> Result<(), AllocError>
+    ensures { OnOk result (string_bytes text.new ≡ string_bytes text.old ++ decimal lane ++ (codes " new " ++ (decimal name.lane ++ (codes ":" ++ (decimal name.count ++ codes "\n"))))) }
 {
-    format!(in alloc; "{lane} new {}:{}\n", name.lane, name.count)
+    write!(text, "{lane} new {}:{}\n", name.lane, name.count)
 }
 
-fn numbered(alloc: Global, words: &str, number: u32) -> Result<String, AllocError>
-    ensures { IfOk result (λ s. string_bytes s ≡ words.now ++ (decimal number ++ codes "\n")) }
+fn push_numbered(text: &mut String, words: &str, number: u32) -> Result<(), AllocError>
+    ensures { OnOk result (string_bytes text.new ≡ string_bytes text.old ++ words.now ++ (decimal number ++ codes "\n")) }
 {
-    format!(in alloc; "{words}{number}\n")
+    write!(text, "{words}{number}\n")
 }
 
-/// An object or none.
-fn object_word(alloc: Global, name: Option<Name>) -> Result<String, AllocError>
-    ensures { IfOk result (λ s. string_bytes s ≡ object_text name) }
+// An object or none.
+fn push_object(text: &mut String, name: Option<Name>) -> Result<(), AllocError>
+    ensures { OnOk result (string_bytes text.new ≡ string_bytes text.old ++ object_text name) }
 {
     match name {
-        Some(name) => format!(in alloc; "{}:{}", name.lane, name.count),
-        None => String::from_str(alloc, "none"),
+        Some(name) => write!(text, "{}:{}", name.lane, name.count),
+        None => text.push_str("none"),
     }
 }
 
-/// An object or none, behind words.
-fn told(alloc: Global, lane: u32, words: &str, name: Option<Name>) -> Result<String, AllocError>
-    ensures { IfOk result (λ s. string_bytes s ≡ decimal lane ++ (words.now ++ (object_text name ++ codes "\n"))) }
+// An object or none, behind words.
+fn push_told(
+    text: &mut String,
+    lane: u32,
+    words: &str,
+    name: Option<Name>,
+) -> Result<(), AllocError>
+    ensures { OnOk result (string_bytes text.new ≡ string_bytes text.old ++ decimal lane ++ (words.now ++ (object_text name ++ codes "\n"))) }
 {
-    let word = object_word(alloc, name)?;
-    let word = word.as_str();
-    format!(in alloc; "{lane}{words}{word}\n")
+    write!(text, "{lane}{words}")?;
+    push_object(text, name)?;
+    text.push_str("\n")
 }
 
-fn object(
-    alloc: Global,
+fn push_class(
+    text: &mut String,
     classes: &ClassTable,
     lane: u32,
     name: Name,
     class: ClassId,
-) -> Result<String, AllocError>
+) -> Result<(), AllocError>
     requires { class.0 < length classes.now.classes }
-    ensures { IfOk result (λ s. string_bytes s ≡ text_of classes.now.classes (reply.Object lane name class)) }
+    ensures { OnOk result (string_bytes text.new ≡ string_bytes text.old ++ text_of classes.now.classes (reply.Object lane name class)) }
 {
     let word = classes.class_name(class);
-    format!(in alloc; "{lane} object {}:{} {word}\n", name.lane, name.count)
+    write!(text, "{lane} object {}:{} {word}\n", name.lane, name.count)
 }
 
-/// Words behind a lane.
-fn worded(alloc: Global, lane: u32, words: &str) -> Result<String, AllocError>
-    ensures { IfOk result (λ s. string_bytes s ≡ decimal lane ++ words.now) }
+// Words behind a lane.
+fn push_worded(text: &mut String, lane: u32, words: &str) -> Result<(), AllocError>
+    ensures { OnOk result (string_bytes text.new ≡ string_bytes text.old ++ decimal lane ++ words.now) }
 {
-    format!(in alloc; "{lane}{words}")
+    write!(text, "{lane}{words}")
 }
 
 /// The line of a reply, with its line feed.
-pub(crate) fn line(alloc: Global, classes: &ClassTable, reply: &Reply) -> Result<String, AllocError>
+pub(crate) fn push_line(
+    text: &mut String,
+    classes: &ClassTable,
+    reply: &Reply,
+) -> Result<(), AllocError>
     requires { HasText classes.now.classes reply.now }
-    ensures { IfOk result (λ s. string_bytes s ≡ text_of classes.now.classes reply.now) }
+    ensures { OnOk result (string_bytes text.new ≡ string_bytes text.old ++ text_of classes.now.classes reply.now) }
 {
     match reply {
-        Reply::Opened(lane, phase) => opened(alloc, *lane, *phase),
-        Reply::Closed(lane) => worded(alloc, *lane, " close\n"),
-        Reply::New(lane, name) => new(alloc, *lane, *name),
-        Reply::Full(lane, free) => format!(in alloc; "{lane} full {free}\n"),
-        Reply::NamesSpent(lane, left) => names_spent(alloc, *lane, *left),
-        Reply::WasRoot(lane, was) => was_root(alloc, *lane, *was),
-        Reply::Was(lane, old) => told(alloc, *lane, " was ", *old),
-        Reply::WasNumber(lane, old) => format!(in alloc; "{lane} was {old}\n"),
-        Reply::Is(lane, got) => told(alloc, *lane, " is ", *got),
-        Reply::IsNumber(lane, got) => format!(in alloc; "{lane} is {got}\n"),
-        Reply::Object(lane, name, class) => object(alloc, classes, *lane, *name, *class),
-        Reply::NoObject(lane) => worded(alloc, *lane, " none\n"),
-        Reply::NoField(lane) => worded(alloc, *lane, " no field\n"),
-        Reply::WrongKind(lane) => worded(alloc, *lane, " wrong kind\n"),
-        Reply::NoElement(lane) => worded(alloc, *lane, " no element\n"),
-        Reply::WrongClass(lane) => worded(alloc, *lane, " wrong class\n"),
-        Reply::Running(phase) => running(alloc, *phase),
-        Reply::Purging(left) => numbered(alloc, "gc purging ", *left),
-        Reply::Pending(frames) => numbered(alloc, "gc pending frames ", *frames),
-        Reply::FullGc(removed, left, names) => full(alloc, *removed, *left, names.as_slice()),
+        Reply::Opened(lane, phase) => push_opened(text, *lane, *phase),
+        Reply::Closed(lane) => push_worded(text, *lane, " close\n"),
+        Reply::New(lane, name) => push_new(text, *lane, *name),
+        Reply::Full(lane, free) => write!(text, "{lane} full {free}\n"),
+        Reply::NamesSpent(lane, left) => push_names_spent(text, *lane, *left),
+        Reply::WasRoot(lane, was) => push_was_root(text, *lane, *was),
+        Reply::Was(lane, old) => push_told(text, *lane, " was ", *old),
+        Reply::WasNumber(lane, old) => write!(text, "{lane} was {old}\n"),
+        Reply::Is(lane, got) => push_told(text, *lane, " is ", *got),
+        Reply::IsNumber(lane, got) => write!(text, "{lane} is {got}\n"),
+        Reply::Object(lane, name, class) => push_class(text, classes, *lane, *name, *class),
+        Reply::NoObject(lane) => push_worded(text, *lane, " none\n"),
+        Reply::NoField(lane) => push_worded(text, *lane, " no field\n"),
+        Reply::WrongKind(lane) => push_worded(text, *lane, " wrong kind\n"),
+        Reply::NoElement(lane) => push_worded(text, *lane, " no element\n"),
+        Reply::WrongClass(lane) => push_worded(text, *lane, " wrong class\n"),
+        Reply::Running(phase) => push_running(text, *phase),
+        Reply::Purging(left) => push_numbered(text, "gc purging ", *left),
+        Reply::Pending(frames) => push_numbered(text, "gc pending frames ", *frames),
+        Reply::FullGc(removed, left, names) => push_full(text, *removed, *left, names.as_slice()),
     }
 }

@@ -1,37 +1,48 @@
 //! The variables of a script.
-ghost use Rattle.std.specs.Prelude.{◌≡◌, ◌<◌, ◌+◌, ◌^◌, length, replicate, IfOk, None, slice_set};
-ghost use Rattle.world_play.specs.Variables.{lane_ref, slot_of, AreFresh};
+ghost use Rattle.std.specs.Prelude.{◌≡◌, ◌<◌, ℕ, length, replicate, IfOk, None, slice_set};
+ghost use Rattle.world_play.specs.Slots.{slot_of, AreDated};
 
 use std::alloc::{AllocError, Global};
 use world_model::Ref;
 
 /// The object that a variable was bound to, and in which of its lane's frames.
 #[derive(Clone, Copy)]
-pub struct Bound {
-    pub frame: u64,
-    pub at: Ref,
+struct Bound {
+    frame: u64,
+    at: Ref,
 }
 
 /// The variables of one lane by number. One that was bound in an earlier frame of the lane stands
 /// for nothing, so a frame ends them all at once.
 #[derive(Drop)]
-pub struct LaneVariables {
-    pub frame: u64,
-    pub slots: Vec<Option<Bound>>,
+struct LaneVariables {
+    frame: u64,
+    slots: Vec<Option<Bound>>,
+    ghost dated: { AreDated frame slots.items },
+}
+
+/// Empties all slots.
+fn clear(slots: &mut [Option<Bound>])
+    ensures { slots.new ≡ replicate (length slots.old) None }
+{
+    for at in 0..slots.len() {
+        slots[at] = None;
+    }
 }
 
 impl LaneVariables {
-    /// So many variables, of which none stands for an object.
-    pub fn new(alloc: Global, count: u32) -> Result<LaneVariables, AllocError>
-        ensures frame { IfOk result (λ lane. lane.frame ≡ 0) }
+    ghost use Rattle.world_play.specs.Variables.{lane_ref};
+
+    // So many variables, of which none stands for an object.
+    fn new(alloc: Global, count: u32) -> Result<LaneVariables, AllocError>
         ensures slots { IfOk result (λ lane. lane.slots.items ≡ replicate count None) }
     {
         let slots = vec![in alloc; None; count as usize]?;
         Ok(LaneVariables { frame: 0, slots })
     }
 
-    /// Lets a variable stand for an object, or for none.
-    pub fn bind(&mut self, var: u32, to: Option<Ref>)
+    // Lets a variable stand for an object, or for none.
+    fn bind(&mut self, var: u32, to: Option<Ref>)
         requires { var < length self.old.slots.items }
         ensures frame { self.new.frame ≡ self.old.frame }
         ensures slots { self.new.slots.items ≡ slice_set self.old.slots.items var (slot_of self.old.frame to) }
@@ -43,17 +54,21 @@ impl LaneVariables {
         };
     }
 
-    /// Ends all variables.
-    pub fn end(&mut self)
-        requires { self.old.frame + 1 < 2 ^ 64 }
-        ensures frame { self.new.frame ≡ self.old.frame + 1 }
-        ensures slots { self.new.slots.items ≡ self.old.slots.items }
+    // Ends all variables. Where the frames are at the end of their range, they start anew.
+    fn end(&mut self)
+        ensures none { (var : ℕ) → lane_ref self.new var ≡ None }
+        ensures count { length self.new.slots.items ≡ length self.old.slots.items }
     {
-        self.frame += 1;
+        if self.frame == u64::MAX {
+            clear(self.slots.as_mut_slice());
+            self.frame = 0;
+        } else {
+            self.frame += 1;
+        }
     }
 
-    /// The object that a variable stands for.
-    pub fn get(&self, var: u32) -> Option<Ref>
+    // The object that a variable stands for.
+    fn get(&self, var: u32) -> Option<Ref>
         requires { var < length self.now.slots.items }
         ensures { result ≡ lane_ref self.now var }
     {
@@ -68,13 +83,47 @@ impl LaneVariables {
     }
 }
 
-/// The variables of all lanes, of which none stands for an object.
-pub fn unbound(alloc: Global, counts: &[u32]) -> Result<Vec<LaneVariables>, AllocError>
-    ensures { IfOk result (λ lanes. AreFresh lanes.items counts.now) }
-{
-    let mut lanes = Vec::new(alloc);
-    for count in counts {
-        lanes.push(LaneVariables::new(alloc, *count)?)?;
+/// The variables of all lanes.
+#[derive(Drop)]
+pub(crate) struct Variables {
+    lanes: Vec<LaneVariables>,
+}
+
+impl Variables {
+    ghost use Rattle.world_play.specs.Variables.{standing, unbound, with_ref, without_refs, HasVariable};
+
+    /// So many variables of each lane, of which none stands for an object.
+    pub(crate) fn new(alloc: Global, counts: &[u32]) -> Result<Variables, AllocError>
+        ensures { IfOk result (λ variables. standing variables ≡ unbound counts.now) }
+    {
+        let mut lanes = Vec::new(alloc);
+        for count in counts {
+            lanes.push(LaneVariables::new(alloc, *count)?)?;
+        }
+        Ok(Variables { lanes })
     }
-    Ok(lanes)
+
+    /// The object that a variable of a lane stands for.
+    pub(crate) fn get(&self, lane: u32, var: u32) -> Option<Ref>
+        requires { HasVariable (standing self.now) lane var }
+        ensures { result ≡ (standing self.now).refs lane var }
+    {
+        self.lanes[lane as usize].get(var)
+    }
+
+    /// Lets a variable of a lane stand for an object, or for none.
+    pub(crate) fn bind(&mut self, lane: u32, var: u32, to: Option<Ref>)
+        requires { HasVariable (standing self.old) lane var }
+        ensures { standing self.new ≡ with_ref (standing self.old) lane var to }
+    {
+        self.lanes[lane as usize].bind(var, to);
+    }
+
+    /// Ends all variables of a lane, as its frame ends.
+    pub(crate) fn end(&mut self, lane: u32)
+        requires { lane < length (standing self.old).counts }
+        ensures { standing self.new ≡ without_refs (standing self.old) lane }
+    {
+        self.lanes[lane as usize].end();
+    }
 }

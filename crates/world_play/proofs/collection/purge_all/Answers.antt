@@ -1,6 +1,6 @@
 use Rattle.std.proofs.Common.{ap, ◌∙◌, inl, inr, sym, arith}
 use Rattle.world_play.specs.Header.{Header}
-use Rattle.world_play.specs.Plays.{is_ready}
+use Rattle.world_play.specs.Collections.{is_ready}
 use Rattle.world_play.proofs.Purging.{destroys_none, destroys_more, destroys_all, purge_answers, still_by_class, purge_less, never_gathering}
 use Rattle.world_play.proofs.collection.purge_all.Goals.{then-left-eq0-via-then-left-eq0, then-left-eq0-via-else-left-eq0+then-bound-eq0}
 use Rattle.world_play.proofs.collection.purge_all.Goals as goal

@@ -2,7 +2,7 @@ use Rattle.std.proofs.Common.{◌≡◌, ◌+◌, ◌*◌, min, length}
 use Rattle.world_model.specs.World.{left_of}
 use Rattle.world_model.specs.Histories.{after}
 use Rattle.world_model.specs.Engines.{KeepsHeld}
-use Rattle.world_play.specs.Plays.{is_ready}
+use Rattle.world_play.specs.Collections.{is_ready}
 use Rattle.world_play.proofs.Purging.{DestroysOn, IsByClass}
 use Rattle.world_play.proofs.collection.purge_all.Given as goal
 

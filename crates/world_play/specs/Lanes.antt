@@ -1,0 +1,82 @@
+-- What a command of a lane is: one relation of its entries, its reply and the variables that it leaves, given the state and the variables before.
+use Rattle.std.specs.Prelude.{◌≡◌, ℕ, Bool, true, false, ◌⊎◌, List, [], ◌∷◌, Option, Some, None, Result, Ok, Err}
+use Rattle.world_model.specs.State.{State}
+use Rattle.world_model.specs.Calls.{by, CallOf}
+use Rattle.world_model.specs.Engines.{act_of_refusal}
+use Rattle.class_schema.specs.Table.{kind_of}
+use Rattle.world_play.specs.Types.{Name, Kind, CreateErr, Pass, Lane, Act, Entry, Reply, LaneCmd}
+use Rattle.world_play.specs.Types.act
+use Rattle.world_play.specs.Types.create
+use Rattle.world_play.specs.Types.reply
+use Rattle.world_play.specs.Types.lane_cmd
+use Rattle.world_play.specs.Header.{Header}
+use Rattle.world_play.specs.Bindings.{Bindings, bound, ended}
+use Rattle.world_play.specs.Spots.{Element, value_of, set_spot, get_spot, int_spot, told_object}
+
+-- ---- entries and a reply
+
+-- the piece is one solo call that this act closes
+abbrev pub OneCall : State → Pass → Act → List Entry → Type 0
+OneCall s p a piece = (acts : List Act) × CallOf s p a acts × (piece ≡ by p acts)
+
+-- one solo call of a lane, whose closing act and reply have the same answer
+abbrev pub Calls : {A : Type 0} → State → ℕ → (A → Act) → (A → Reply) → List Entry → Reply → Type 0
+Calls {A} s lane closes tells piece r = (answer : A) × OneCall s (Lane lane) (closes answer) piece × (r ≡ tells answer)
+
+-- no call, and this reply
+abbrev pub Says : Reply → List Entry → Reply → Type 0
+Says what piece r = (piece ≡ []) × (r ≡ what)
+
+-- a call on the object of a variable; one that stands for none is told
+abbrev pub OnObject : ℕ → Option Name → (Name → List Entry → Reply → Type 0) → List Entry → Reply → Type 0
+OnObject lane None call piece r = Says (reply.NoObject lane) piece r
+OnObject lane (Some n) call piece r = call n piece r
+
+-- a call on the element that a spot stands for, or why there is none
+abbrev pub OnElement : Result Element Reply → (Element → List Entry → Reply → Type 0) → List Entry → Reply → Type 0
+OnElement (Err why) call piece r = Says why piece r
+OnElement (Ok e) call piece r = call e piece r
+
+-- why no object was made
+abbrev pub no_room : ℕ → CreateErr → Reply
+no_room lane (create.Full free) = reply.Full lane free
+no_room lane (create.NamesSpent left) = reply.NamesSpent lane left
+
+-- an object of this kind was made, or refused
+abbrev pub Makes : State → ℕ → Kind → List Entry → Reply → Type 0
+Makes s lane kind piece r =
+    Calls s lane (λ count. act.Make (kind ∷ []) count) (λ count. reply.New lane (record { lane = lane; count = count })) piece r
+    ⊎ Calls s lane (λ why. act_of_refusal 1 why) (λ why. no_room lane why) piece r
+
+-- ---- commands
+
+-- the object that a reply gives
+abbrev pub object_of : Reply → Option Name
+object_of (reply.New lane n) = Some n
+object_of (reply.Is lane got) = got
+object_of _ = None
+
+-- from a state and these variables the command has these entries and this reply, and leaves those variables
+abbrev pub LaneTurn : Header → State → Bindings → ℕ → LaneCmd → List Entry → Reply → Bindings → Type 0
+LaneTurn header s names lane lane_cmd.Open piece r new =
+    Calls s lane (λ phase. act.FrameOpen phase) (λ phase. reply.Opened lane phase) piece r × (new ≡ names)
+LaneTurn header s names lane lane_cmd.Close piece r new =
+    OneCall s (Lane lane) act.FrameClose piece × (r ≡ reply.Closed lane) × (new ≡ ended names lane)
+LaneTurn header s names lane (lane_cmd.New var class) piece r new =
+    Makes s lane (kind_of header.classes class) piece r × (new ≡ bound names lane var (object_of r))
+LaneTurn header s names lane (lane_cmd.Root var on) piece r new =
+    OnObject lane (names.objects lane var) (λ n. Calls s lane (λ was. act.Root n on was) (λ was. reply.WasRoot lane was)) piece r × (new ≡ names)
+LaneTurn header s names lane (lane_cmd.Set spot to) piece r new =
+    OnElement (set_spot header s.world.kinds lane (names.objects lane) spot to)
+    (λ e. Calls s lane (λ old. act.WriteRef e.at e.slot (value_of (names.objects lane) to) old) (λ old. reply.Was lane old)) piece r × (new ≡ names)
+LaneTurn header s names lane (lane_cmd.Get var spot) piece r new =
+    OnElement (get_spot header s.world.kinds lane (names.objects lane) spot)
+    (λ e. Calls s lane (λ got. act.ReadRef e.at e.slot got) (λ got. reply.Is lane got)) piece r × (new ≡ bound names lane var (object_of r))
+LaneTurn header s names lane (lane_cmd.Put spot value) piece r new =
+    OnElement (int_spot header s.world.kinds lane (names.objects lane) spot)
+    (λ e. Calls s lane (λ old. act.WritePlain e.at e.slot value old) (λ old. reply.WasNumber lane old)) piece r × (new ≡ names)
+LaneTurn header s names lane (lane_cmd.Take spot) piece r new =
+    OnElement (int_spot header s.world.kinds lane (names.objects lane) spot)
+    (λ e. Calls s lane (λ got. act.ReadPlain e.at e.slot got) (λ got. reply.IsNumber lane got)) piece r × (new ≡ names)
+LaneTurn header s names lane (lane_cmd.Print var) piece r new =
+    Says (told_object s.world.kinds lane (names.objects lane var)) piece r × (new ≡ names)
