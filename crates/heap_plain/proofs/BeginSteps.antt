@@ -9,30 +9,33 @@ use Rattle.std.proofs.Math.Nat.{lt_of_not-le}
 use Rattle.std.proofs.lemmas.List.{length-set, get_or-set_other, get_or-take, length-take-le, get_or_past}
 use Rattle.world_model.specs.Sizes.{Sizes, item_count}
 use Rattle.world_model.specs.NameLists.{has}
-use Rattle.world_model.specs.World.{World, unit_of, Removal}
+use Rattle.world_model.specs.World.{World, unit_of, in_world, Removal}
 use Rattle.world_model.specs.State.{State, AtSomeMoment, Frame}
 use Rattle.world_model.specs.Reach.{graph, IsUnit, IsRootUnit}
 use Rattle.world_model.specs.Next.{next, run}
 use Rattle.world_model.specs.Histories.{LegalFrom, MayBy, after, state_of}
 use Rattle.world_model.specs.Calls.{by, Appends, CallOf}
-use Rattle.world_model.proofs.ListFacts.{Among, contains_among, and_true}
+use Rattle.world_model.proofs.ListFacts.{Among, contains_among, and_true, among_test, among_right}
 use Rattle.world_model.proofs.Units.{AreApart, units_apart}
+use Rattle.world_model.proofs.Barrier.{member_lives, own_unit}
+use Rattle.world_model.proofs.Removals.{named_lives_holds}
 use Rattle.heap_plain.specs.Types.{Name, Ref, Kind, Phase, Idle, Marking, Gathering, Begin, Collector, Entry}
 use Rattle.heap_plain.specs.Types.act
 use Rattle.heap_plain.specs.Types.begin
 use Rattle.heap_plain.specs.declared.life.Life.{Life}
-use Rattle.heap_plain.specs.Parts.{Parts, Holds, name_at, first_at}
+use Rattle.heap_plain.specs.Parts.{Parts, Objects, name_at, first_at}
 use Rattle.heap_plain.specs.Filling.{Filled}
 use Rattle.heap_plain.specs.Notes.{MayStart, starts, names_at, all_set, CanKeep, Keeps}
-use Rattle.heap_plain.specs.Sections.{NamesShow, UnitsShow, StandsAt, LivesAt, RootsShow, rooted_at, MarksShow, RemovedShow, count_left}
-use Rattle.heap_plain.specs.Plain.{Shows, IsPlain}
-use Rattle.heap_plain.proofs.WorldFacts.{in_world_of, unit_of_is, among_test, among_right}
+use Rattle.heap_plain.specs.Units.{NamesShow, UnitsShow, StandsAt, LivesAt}
+use Rattle.heap_plain.specs.Roots.{RootsShow, rooted_at}
+use Rattle.heap_plain.specs.Colouring.{MarksShow}
+use Rattle.heap_plain.specs.Destroying.{RemovedShow, count_left}
+use Rattle.heap_plain.specs.Plain.{ShowsWorld, Shows, IsPlain}
 use Rattle.heap_plain.proofs.Fillings.{from_start}
-use Rattle.heap_plain.proofs.Entries.{plain_more, holds_more}
-use Rattle.heap_plain.proofs.Standing.{member_at, bit_below, name_below}
+use Rattle.heap_plain.proofs.Entries.{Done, does}
+use Rattle.heap_plain.proofs.Standing.{member_at, bit_below, name_below, lives_at}
 use Rattle.heap_plain.proofs.MarkSteps.{mark_one}
 use Rattle.heap_plain.proofs.Noting.{length-all_set}
-use Rattle.heap_plain.proofs.Quiet.{quiet_shows}
 
 -- ---- refusals
 
@@ -40,46 +43,28 @@ pub none_of_none : {A : Type 0} (xs : List A) → length xs ≡ 0 → xs ≡ []
 none_of_none [] e = refl
 none_of_none (x ∷ xs) e = absurd (omega arith)
 
-left_idle : (phase : Phase) (removals : List Removal) (found : List Name) (left : ℕ) → left ≡ count_left phase removals found → phase ≡ Idle → left ≡ length removals
+pub left_idle : (phase : Phase) (removals : List Removal) (found : List Name) (left : ℕ) → left ≡ count_left phase removals found → phase ≡ Idle → left ≡ length removals
 left_idle Idle removals found left e is = e
 left_idle Marking removals found left e is = e
 left_idle Gathering removals found left e is = absurd cc
 
--- the number of open frames
-pub open_count : (z : Sizes) (p : Parts) (s : State) → Shows z p s → count_by (λ is_open. is_open) p.frames ≡ length s.world.opened
-open_count z p s h = h.frames.count
-
-may_refuse : (z : Sizes) (p : Parts) (h : List Entry) (reply : Begin) → IsPlain z p h → MayStart p.phase p.left (count_by (λ is_open. is_open) p.frames) reply → starts reply ≡ false → MayBy z (state_of h) Collector (act.BeginGc reply)
-may_refuse z p h begin.Started was m other = absurd cc
-may_refuse z p h (begin.Running at) was m other = record { finishes = was.shows.none_agreed; may = (m.0 ∙ was.shows.phase, λ e. m.1 (sym m.0 ∙ e)) }
-may_refuse z p h (begin.Purging n) was m other =
+pub refuses_begin : {z : Sizes} {p : Parts} {h : List Entry} (reply : Begin) → IsPlain z p h → MayStart p.phase p.left (count_by (λ is_open. is_open) p.frames) reply → starts reply ≡ false
+    → Done z p h (h ++ record { pass = Collector; act = act.BeginGc reply } ∷ []) Collector (act.BeginGc reply)
+refuses_begin begin.Started was m other = absurd cc
+refuses_begin (begin.Running at) was m other = does Collector (act.BeginGc (begin.Running at)) (act.BeginGc (begin.Running at) ∷ []) was (refl, tt) (record { finishes = was.rest.between.agreed; may = (m.0 ∙ was.shows.phase, λ e. m.1 (sym m.0 ∙ e)) }, tt) was.shows
+refuses_begin (begin.Purging n) was m other =
     let s = was.shows in
-    record { finishes = s.none_agreed; may = (sym s.phase ∙ m.0, m.1 ∙ left_idle _ _ _ _ s.removed.left_is (sym s.phase ∙ m.0), omega (arith, m.1, m.2)) }
-may_refuse z p h (begin.Frames n) was m other =
+    does Collector (act.BeginGc (begin.Purging n)) (act.BeginGc (begin.Purging n) ∷ []) was (refl, tt)
+    (record { finishes = was.rest.between.agreed; may = (sym s.phase ∙ m.0, m.1 ∙ left_idle _ _ _ _ s.removed.left_is m.0, omega (arith, m.1, m.2)) }, tt) s
+refuses_begin (begin.Frames n) was m other =
     let s = was.shows in
-    record {
-      finishes = s.none_agreed;
-      may = (record { idle = sym s.phase ∙ m.0; released = none_of_none _ (sym (left_idle _ _ _ _ s.removed.left_is (sym s.phase ∙ m.0)) ∙ m.1) }, (m.2 ∙ s.frames.count, omega (arith, m.2, m.3)));
-    }
-
-pub refuses_begin : (z : Sizes) (p : Parts) (h : List Entry) (reply : Begin) → IsPlain z p h → MayStart p.phase p.left (count_by (λ is_open. is_open) p.frames) reply → starts reply ≡ false → IsPlain z p (h ++ record { pass = Collector; act = act.BeginGc reply } ∷ [])
-refuses_begin z p h begin.Started was m other = absurd cc
-refuses_begin z p h (begin.Running at) was m other = plain_more z p p h (record { pass = Collector; act = act.BeginGc (begin.Running at) } ∷ []) was (may_refuse z p h _ was m other, tt) (quiet_shows z p (state_of h) _ _ _ refl refl refl was.shows)
-refuses_begin z p h (begin.Purging n) was m other = plain_more z p p h (record { pass = Collector; act = act.BeginGc (begin.Purging n) } ∷ []) was (may_refuse z p h _ was m other, tt) (quiet_shows z p (state_of h) _ _ _ refl refl refl was.shows)
-refuses_begin z p h (begin.Frames n) was m other = plain_more z p p h (record { pass = Collector; act = act.BeginGc (begin.Frames n) } ∷ []) was (may_refuse z p h _ was m other, tt) (quiet_shows z p (state_of h) _ _ _ refl refl refl was.shows)
-
-pub refuses_begin_call : (h : List Entry) (reply : Begin) → starts reply ≡ false → CallOf (state_of h) Collector (act.BeginGc reply) (act.BeginGc reply ∷ [])
-refuses_begin_call h begin.Started other = absurd cc
-refuses_begin_call h (begin.Running at) other = refl
-refuses_begin_call h (begin.Purging n) other = refl
-refuses_begin_call h (begin.Frames n) other = refl
-
-pub refuses_begin_held : (h : List Entry) (names : List (Option Name)) (reply : Begin) → starts reply ≡ false → (k : ℕ) (r : Ref) → Holds record { history = h; names = names } k r
-    → Holds record { history = h ++ record { pass = Collector; act = act.BeginGc reply } ∷ []; names = names } k r
-refuses_begin_held h names begin.Started other k r = absurd cc
-refuses_begin_held h names (begin.Running at) other k r = holds_more h _ names k r (λ e. e)
-refuses_begin_held h names (begin.Purging n) other k r = holds_more h _ names k r (λ e. e)
-refuses_begin_held h names (begin.Frames n) other k r = holds_more h _ names k r (λ e. e)
+    does Collector (act.BeginGc (begin.Frames n)) (act.BeginGc (begin.Frames n) ∷ []) was (refl, tt) (
+      record {
+        finishes = was.rest.between.agreed;
+        may = (record { idle = sym s.phase ∙ m.0; released = none_of_none _ (sym (left_idle _ _ _ _ s.removed.left_is m.0) ∙ m.1) }, (m.2 ∙ s.frames.count, omega (arith, m.2, m.3)));
+      },
+      tt,
+    ) s
 
 -- ---- the notes
 
@@ -107,87 +92,6 @@ can_below firsts roots bits count limit [] f h x a = absurd a
 can_below firsts roots bits count limit (y ∷ xs) f h x (inl e) = subst (λ (k : ℕ). k < limit) (h.0.3 ∙ e) (f h.0.0)
 can_below firsts roots bits count limit (y ∷ xs) f h x (inr a) = can_below firsts roots (set bits y true) count limit xs f h.2 x a
 
--- what the notes of these units do from a state on
-pub record KeepRun (z : Sizes) (names : List (Option Name)) (firsts sizes links : List ℕ) (lives : List Life) (marked : List Bool) (listed grey : List ℕ) (s : State) (of : List Name) : Type 0 where
-  pub legal : LegalFrom z s (by Collector (map act.Kept of))
-  pub world : (run s (by Collector (map act.Kept of))).world ≡ s.world
-  pub frames : (run s (by Collector (map act.Kept of))).frames ≡ s.frames
-  pub agreed : (run s (by Collector (map act.Kept of))).collector.agreed ≡ None
-  pub asked : (run s (by Collector (map act.Kept of))).collector.asked ≡ s.collector.asked
-  pub steps : (run s (by Collector (map act.Kept of))).collector.steps ≡ 0
-  pub marks : MarksShow names firsts sizes links lives s.world.units marked listed grey (run s (by Collector (map act.Kept of))).marks.kept (run s (by Collector (map act.Kept of))).marks.fresh (run s (by Collector (map act.Kept of))).marks.scanned
-  pub roots : AllByRecursion (λ n. IsRootUnit (graph s.world) (unit_of s.world n)) of
-
--- the object behind a root bit
-root_at : {z : Sizes} {names : List (Option Name)} {made : List ℕ} {kinds : ℕ → List Kind} {lives : List Life} {roots : List Bool} {rooted : Name → Bool} {strong : ℕ → ℕ → Option Name}
-    → NamesShow z names made kinds → RootsShow z names lives roots rooted strong → (i : ℕ) → get_or roots i false ≡ true → (n : Name) × LivesAt names lives i n × (rooted n ≡ true)
-root_at {names} {lives} {roots} {rooted} ns rs i e = go (name_at names i) refl
-  where
-    bit : rooted_at rooted (name_at names i) ≡ true
-    bit = sym (rs.bits.each i false (omega (arith, bit_below roots i e, rs.bits.len))) ∙ e
-
-    go : (o : Option Name) → name_at names i ≡ o → (n : Name) × LivesAt names lives i n × (rooted n ≡ true)
-    go None at = absurd (let wrong : false ≡ true = sym (ap (rooted_at rooted) at) ∙ bit in cc)
-    go (Some n) at =
-        let is : rooted n ≡ true = sym (ap (rooted_at rooted) at) ∙ bit in
-        let j = rs.living n is in
-        let same : j.0 ≡ i = ns.alone j.0 i n j.1.name at in
-        (n, subst (λ (k : ℕ). LivesAt names lives k n) same j.1, is)
-
-pub keep_run : (z : Sizes) (names : List (Option Name)) (firsts sizes links : List ℕ) (lives : List Life) (made : List ℕ) (roots : List Bool) (s : State) (earlier : List World) (marked : List Bool) (listed grey heads : List ℕ) (count : ℕ)
-    → AreApart s.world.kinds s.world.units → NamesShow z names made s.world.kinds → UnitsShow z names firsts sizes links lives s.world.units → RootsShow z names lives roots s.world.rooted s.world.strong
-    → s.world.phase ≡ Marking → s.collector.started ≡ true → s.collector.agreed ≡ None → s.collector.steps ≡ 0 → s.marks.moments ≡ s.world ∷ earlier → length marked ≡ item_count z
-    → MarksShow names firsts sizes links lives s.world.units marked listed grey s.marks.kept s.marks.fresh s.marks.scanned → CanKeep firsts roots count marked heads
-    → KeepRun z names firsts sizes links lives (all_set marked heads) (listed ++ heads) (grey ++ heads) s (names_at names heads)
-keep_run z names firsts sizes links lives made roots s earlier marked listed grey [] count apart ns us rs marking started agreed steps moments len marks can = record {
-  legal = tt;
-  world = refl;
-  frames = refl;
-  agreed = agreed;
-  asked = refl;
-  steps = steps;
-  marks = rw (append-nil listed, append-nil grey) marks;
-  roots = tt;
-}
-keep_run z names firsts sizes links lives made roots s earlier marked listed grey (head ∷ heads) count apart ns us rs marking started agreed steps moments len marks can =
-    let r = can.0 in
-    let root = root_at ns rs r.0 r.2 in
-    let unit = us.each r.0 root.1.life in
-    let u = unit.0 in
-    let stands : StandsAt names firsts sizes links lives s.world.units head u = subst (λ (x : ℕ). StandsAt names firsts sizes links lives s.world.units x u) r.3 unit.1 in
-    let member = member_at us head u stands in
-    let n = member.0 in
-    let entry : Entry = record { pass = Collector; act = act.Kept n } in
-    let inside : head < length marked = omega (arith, subst (λ (x : ℕ). x < item_count z) r.3 (us.in_range r.0)) in
-    let unit_is : unit_of s.world n ≡ u = unit_of_is s.world.kinds s.world.units u n apart stands.among member.2 in
-    let has_root : has u root.0 ≡ true = stands.whole r.0 root.0 root.1 r.3 in
-    let is_root : IsRootUnit (graph s.world) (unit_of s.world n) = subst (λ (v : List Name). IsRootUnit (graph s.world) v) (sym unit_is) (root.0, has_root, inl root.2) in
-    let rest = keep_run z names firsts sizes links lives made roots (next s entry) s.marks.moments (set marked head true) (listed ++ head ∷ []) (grey ++ head ∷ []) heads count apart ns us rs marking started refl refl refl
-    (length-set marked head true ∙ len) (mark_one ns us apart head u n stands member.2 can.1 inside marks) can.2 in
-    let may : MayBy z s Collector (act.Kept n) = record {
-      finishes = agreed;
-      may = record {
-        white = record { marking = marking; living = in_world_of s.world.units u n stands.among member.2; unmarked = rw unit_is (sym (marks.bits head u stands) ∙ can.1) };
-        started = started;
-        root = subst (λ (ms : List World). AtSomeMoment ms (λ w. IsRootUnit (graph w) (unit_of s.world n))) (sym moments) (inl is_root);
-      };
-    } in
-    let whole : KeepRun z names firsts sizes links lives (all_set marked (head ∷ heads)) ((listed ++ head ∷ []) ++ heads) ((grey ++ head ∷ []) ++ heads) s (n ∷ names_at names heads) = record {
-      legal = (may, rest.legal);
-      world = rest.world;
-      frames = rest.frames;
-      agreed = rest.agreed;
-      asked = rest.asked;
-      steps = rest.steps;
-      marks = rest.marks;
-      roots = (is_root, rest.roots);
-    } in
-    subst (λ (o : Option Name). KeepRun z names firsts sizes links lives (all_set marked (head ∷ heads)) (listed ++ head ∷ heads) (grey ++ head ∷ heads) s (option_to_list o ++ names_at names heads)) (sym member.1.name)
-    (subst (λ (xs : List ℕ). KeepRun z names firsts sizes links lives (all_set marked (head ∷ heads)) xs (grey ++ head ∷ heads) s (n ∷ names_at names heads)) (append_assoc listed (head ∷ []) heads)
-    (subst (λ (xs : List ℕ). KeepRun z names firsts sizes links lives (all_set marked (head ∷ heads)) ((listed ++ head ∷ []) ++ heads) xs s (n ∷ names_at names heads)) (append_assoc grey (head ∷ []) heads) whole))
-
--- ---- a collection starts
-
 none_any : (u : List Name) → list_any (λ n. has [] n || has [] n) u ≡ false
 none_any [] = refl
 none_any (n ∷ u) = none_any u
@@ -196,19 +100,89 @@ none_has : (u : List Name) → list_any (has []) u ≡ true → ⊥
 none_has [] e = cc
 none_has (n ∷ u) e = none_has u e
 
+-- what the notes of these units do from a state on
+pub record KeepRun (z : Sizes) (o : Objects) (marked : List Bool) (listed grey : List ℕ) (s : State) (of : List Name) : Type 0 where
+  pub legal : LegalFrom z s (by Collector (map act.Kept of))
+  pub world : (run s (by Collector (map act.Kept of))).world ≡ s.world
+  pub asked : (run s (by Collector (map act.Kept of))).collector.asked ≡ s.collector.asked
+  pub marks : MarksShow o s.world.units marked listed grey (run s (by Collector (map act.Kept of))).marks.kept (run s (by Collector (map act.Kept of))).marks.fresh (run s (by Collector (map act.Kept of))).marks.scanned
+  pub roots : AllByRecursion (λ n. IsRootUnit (graph s.world) (unit_of s.world n)) of
+
+-- the object behind a root bit
+root_at : {z : Sizes} {o : Objects} {kinds : ℕ → List Kind} {units : List (List Name)} {roots : List Bool} {rooted : Name → Bool} {strong : ℕ → ℕ → Option Name} → NamesShow z o.names kinds → UnitsShow z o units → RootsShow z o.names roots rooted strong
+    → ((n : Name) → rooted n ≡ true → list_any (λ u. has u n) units ≡ true) → (i : ℕ) → get_or roots i false ≡ true → (n : Name) × LivesAt o.names o.lives i n × (rooted n ≡ true)
+root_at {o = o} {roots = roots} {rooted = rooted} ns us rs living i e = go (name_at o.names i) refl
+  where
+    bit : rooted_at rooted (name_at o.names i) ≡ true
+    bit = sym (rs.bits.each i false (omega (arith, bit_below roots i e, rs.bits.len))) ∙ e
+
+    go : (q : Option Name) → name_at o.names i ≡ q → (n : Name) × LivesAt o.names o.lives i n × (rooted n ≡ true)
+    go None at = absurd (let wrong : false ≡ true = sym (ap (rooted_at rooted) at) ∙ bit in cc)
+    go (Some n) at =
+        let is : rooted n ≡ true = sym (ap (rooted_at rooted) at) ∙ bit in
+        let j = lives_at us n (living n is) in
+        let same : j.0 ≡ i = ns.alone j.0 i n j.1.name at in
+        (n, subst (λ (k : ℕ). LivesAt o.names o.lives k n) same j.1, is)
+
+pub keep_run : (z : Sizes) (o : Objects) (roots : List Bool) (s : State) (earlier : List World) (marked : List Bool) (listed grey heads : List ℕ) (count : ℕ)
+    → AreApart s.world.kinds s.world.units → NamesShow z o.names s.world.kinds → UnitsShow z o s.world.units → RootsShow z o.names roots s.world.rooted s.world.strong → ((n : Name) → s.world.rooted n ≡ true → in_world s.world n ≡ true)
+    → s.world.phase ≡ Marking → s.collector.started ≡ true → s.collector.agreed ≡ None → s.marks.moments ≡ s.world ∷ earlier → s.marks.scanned ≡ [] → length marked ≡ item_count z
+    → MarksShow o s.world.units marked listed grey s.marks.kept s.marks.fresh s.marks.scanned → CanKeep o.firsts roots count marked heads
+    → KeepRun z o (all_set marked heads) (listed ++ heads) (grey ++ heads) s (names_at o.names heads)
+keep_run z o roots s earlier marked listed grey [] count apart ns us rs living marking started agreed moments black len marks can = record {
+  legal = tt;
+  world = refl;
+  asked = refl;
+  marks = rw (append-nil listed, append-nil grey) marks;
+  roots = tt;
+}
+keep_run z o roots s earlier marked listed grey (head ∷ heads) count apart ns us rs living marking started agreed moments black len marks can =
+    let r = can.0 in
+    let root = root_at ns us rs living r.0 r.2 in
+    let unit = us.each r.0 root.1.life in
+    let u = unit.0 in
+    let stands : StandsAt o s.world.units head u = subst (λ (x : ℕ). StandsAt o s.world.units x u) r.3 unit.1 in
+    let member = member_at us head u stands in
+    let n = member.0 in
+    let entry : Entry = record { pass = Collector; act = act.Kept n } in
+    let inside : head < length marked = omega (arith, subst (λ (x : ℕ). x < item_count z) r.3 (us.in_range r.0)) in
+    let unit_is : unit_of s.world n ≡ u = own_unit s.world apart u n stands.among member.2 in
+    let has_root : has u root.0 ≡ true = stands.whole r.0 root.0 root.1 r.3 in
+    let is_root : IsRootUnit (graph s.world) (unit_of s.world n) = subst (λ (v : List Name). IsRootUnit (graph s.world) v) (sym unit_is) (root.0, has_root, inl root.2) in
+    let rest = keep_run z o roots (next s entry) s.marks.moments (set marked head true) (listed ++ head ∷ []) (grey ++ head ∷ []) heads count apart ns us rs living marking started refl refl black
+    (length-set marked head true ∙ len) (mark_one ns us apart head u n stands member.2 can.1 inside (λ e. absurd (none_has u (subst (λ (ns : List Name). list_any (has ns) u ≡ true) black e))) marks) can.2 in
+    let may : MayBy z s Collector (act.Kept n) = record {
+      finishes = agreed;
+      may = record {
+        white = record { marking = marking; living = member_lives s.world u n stands.among member.2; unmarked = rw unit_is (sym (marks.bits head u stands) ∙ can.1) };
+        started = started;
+        root = subst (λ (ms : List World). AtSomeMoment ms (λ w. IsRootUnit (graph w) (unit_of s.world n))) (sym moments) (inl is_root);
+      };
+    } in
+    let whole : KeepRun z o (all_set marked (head ∷ heads)) ((listed ++ head ∷ []) ++ heads) ((grey ++ head ∷ []) ++ heads) s (n ∷ names_at o.names heads) = record {
+      legal = (may, rest.legal);
+      world = rest.world;
+      asked = rest.asked;
+      marks = rest.marks;
+      roots = (is_root, rest.roots);
+    } in
+    subst (λ (q : Option Name). KeepRun z o (all_set marked (head ∷ heads)) (listed ++ head ∷ heads) (grey ++ head ∷ heads) s (option_to_list q ++ names_at o.names heads)) (sym member.1.name)
+    (subst (λ (xs : List ℕ). KeepRun z o (all_set marked (head ∷ heads)) xs (grey ++ head ∷ heads) s (n ∷ names_at o.names heads)) (append_assoc listed (head ∷ []) heads)
+    (subst (λ (xs : List ℕ). KeepRun z o (all_set marked (head ∷ heads)) ((listed ++ head ∷ []) ++ heads) xs s (n ∷ names_at o.names heads)) (append_assoc grey (head ∷ []) heads) whole))
+
+-- ---- a collection starts
+
 -- nothing is marked
-unmarked : (names : List (Option Name)) (firsts sizes links : List ℕ) (lives : List Life) (units : List (List Name)) (marked : List Bool) → ((i : ℕ) → get_or marked i false ≡ false) → MarksShow names firsts sizes links lives units marked [] [] [] [] []
-unmarked names firsts sizes links lives units marked clear = record {
+unmarked : (o : Objects) (units : List (List Name)) (marked : List Bool) → ((i : ℕ) → get_or marked i false ≡ false) → MarksShow o units marked [] [] [] [] []
+unmarked o units marked clear = record {
   bits = λ head u t. clear head ∙ sym (none_any u);
   listed_marked = λ head a. absurd a;
   distinct = tt;
   grey_units = λ head a. absurd a;
   all_grey = λ head u t e. absurd (none_has u (and_true _ _ e).0);
-  black_marked = λ head u t e. absurd (none_has u e);
-  known = λ n e. absurd cc;
 }
 
-module _ (z : Sizes) (p : Parts) (h new : List Entry) (cleared marked : List Bool) (work : List ℕ) (pushed : ℕ) (was : IsPlain z p h) (open_none : count_by (λ is_open. is_open) p.frames ≡ 0) (idle : p.phase ≡ Idle) (none_left : p.left ≡ 0)
+module _ {z : Sizes} {p : Parts} {h new : List Entry} {cleared marked : List Bool} {work : List ℕ} {pushed : ℕ} (was : IsPlain z p h) (open_none : count_by (λ is_open. is_open) p.frames ≡ 0) (idle : p.phase ≡ Idle) (none_left : p.left ≡ 0)
     (count : ℕ) (count_is : count ≡ length p.marked) (clear : Filled p.marked cleared 0 count (λ k. false))
     (keeps : Keeps p.names p.firsts p.roots (length p.roots) cleared marked p.work work pushed (h ++ record { pass = Collector; act = act.BeginGc begin.Started } ∷ []) new) where
   abbrev s : Shows z p (state_of h)
@@ -235,94 +209,63 @@ module _ (z : Sizes) (p : Parts) (h new : List Entry) (cleared marked : List Boo
       (λ (b : ¬ (length p.marked ≤ i)). let lt = lt_of_not-le b in from_start clear i false (omega arith))
 
   removals_none : (after h).removals ≡ []
-  removals_none = none_of_none _ (sym (left_idle _ _ _ _ s.removed.left_is (sym s.phase ∙ idle)) ∙ none_left)
+  removals_none = none_of_none _ (sym (left_idle _ _ _ _ s.removed.left_is idle) ∙ none_left)
 
-  ran : KeepRun z p.names p.firsts p.sizes p.next p.lives (all_set cleared heads) heads heads s1 of
-  ran = keep_run z p.names p.firsts p.sizes p.next p.lives p.made p.roots s1 [] cleared [] [] heads (length p.roots) (units_apart z h was.legal) s.names s.units s.roots refl refl refl refl refl (clear.len ∙ s.work.marked_len)
-      (unmarked p.names p.firsts p.sizes p.next p.lives (after h).units cleared all_clear) keeps.can
+  ran : KeepRun z p.objects (all_set cleared heads) heads heads s1 of
+  ran = keep_run z p.objects p.roots s1 [] cleared [] [] heads (length p.roots) (units_apart z h was.legal) s.names s.units s.roots (named_lives_holds z h was.legal).rooted refl refl refl refl refl (clear.len ∙ s.work.marked_len)
+      (unmarked p.objects (after h).units cleared all_clear) keeps.can
 
   may_start : MayBy z (state_of h) Collector (act.BeginGc begin.Started)
-  may_start = record { finishes = s.none_agreed; may = (record { idle = sym s.phase ∙ idle; released = removals_none }, none_of_none _ (sym s.frames.count ∙ open_none)) }
+  may_start = record { finishes = was.rest.between.agreed; may = (record { idle = sym s.phase ∙ idle; released = removals_none }, none_of_none _ (sym s.frames.count ∙ open_none)) }
 
   abbrev q : Parts
-  q = record p { phase = Marking; scanned = 0; pushed = pushed; marked = marked; work = work }
+  q = record p { gate = record (p.gate) { phase = Marking }; colours = record { marked = marked; work = work; scanned = 0; pushed = pushed } }
 
   abbrev end : State
   end = run s1 notes
 
-  removed_marking : (left swept looked : ℕ) (removals : List Removal) (found : List Name) → removals ≡ [] → left ≡ length removals → RemovedShow z p.names p.lives p.polls left swept (after h).phase removals found looked → RemovedShow z p.names p.lives p.polls left swept Marking removals found looked
-  removed_marking left swept looked removals found none count k = record {
-    swept_is = k.swept_is;
-    swept_few = k.swept_few;
-    polls_len = k.polls_len;
-    removed = k.removed;
-    gone = k.gone;
-    distinct = k.distinct;
-    fresh = λ e. absurd cc;
+  -- no removed object was left
+  removed_marking : RemovedShow z p.names p.lives p.polls p.left p.swept Marking (after h).removals (after h).found (after h).swept
+  removed_marking = record {
+    swept_is = s.removed.swept_is;
+    swept_few = s.removed.swept_few;
+    polls_len = s.removed.polls_len;
+    removed = s.removed.removed;
+    gone = s.removed.gone;
     found_is = λ e. absurd cc;
-    left_is = count;
+    left_is = left_idle _ _ _ _ s.removed.left_is idle;
     left_few = λ e. absurd cc;
-    none_left = λ e. none;
   }
 
-  -- the vectors show the state with the world and the frames that the start leaves
-  shows_end : Shows z q (record end { world = s1.world; frames = s1.frames })
+  -- the vectors show the world that the start leaves
+  shows_end : ShowsWorld z q s1.world end.marks.kept end.marks.fresh end.marks.scanned end.collector.asked
   shows_end = record {
-    phase = refl;
-    frames = s.frames;
-    names = s.names;
-    units = s.units;
-    distinct = s.distinct;
+    gate = record { phase = refl; frames = s.frames };
+    objects = s.objects;
+    rows = s.rows;
     roots = s.roots;
-    held = s.held;
-    work = record {
-      marked_len = ap (λ (xs : List Bool). length xs) keeps.bits ∙ length-all_set cleared heads ∙ clear.len ∙ s.work.marked_len;
-      work_len = keeps.room ∙ s.work.work_len;
-      order = omega arith;
-      few = omega (arith, keeps.few, s.roots.bits.len);
-      entries = λ k b.
-          let len : length heads ≡ pushed = length-take-le pushed work (omega (arith, keeps.few, keeps.room, s.roots.bits.len, s.work.work_len)) in
-          let same = get_or-take pushed work k 0 b in
-          let t = can_below p.firsts p.roots cleared (length p.roots) (item_count z) heads s.units.in_range keeps.can (get_or heads k 0) (get_or_among heads k 0 (omega arith)) in
-          omega arith;
-    };
-    idle = λ ne. absurd (ne refl);
-    marks = λ e. subst (λ (bits : List Bool). MarksShow p.names p.firsts p.sizes p.next p.lives (after h).units bits heads heads end.marks.kept end.marks.fresh end.marks.scanned) (sym keeps.bits) ran.marks;
-    roots_marked = λ e i r. keeps.each i (bit_below p.roots i r) r;
-    kinds = s.kinds;
-    cells = s.cells;
-    black = λ e. record {
-      each = λ i slot t live below at m g.
-          let marked_now = subst (λ (bits : List Bool). get_or bits (first_at p.firsts i) false ≡ true) keeps.bits m in
-          absurd (out (first_at p.firsts i) g (set_among cleared heads (first_at p.firsts i) marked_now));
-    };
-    removed = removed_marking _ _ _ _ _ removals_none (left_idle _ _ _ _ s.removed.left_is (sym s.phase ∙ idle)) s.removed;
-    gone = s.gone;
-    order = s.order;
-    gathers = λ e. absurd cc;
-    queue = λ e. absurd cc;
-    free = s.free;
-    none_agreed = ran.agreed;
-    none_asked = λ ne. ran.asked;
-    no_steps = ran.steps;
     garbage = s.garbage;
+    colours = record {
+      work = record {
+        marked_len = ap (λ (xs : List Bool). length xs) keeps.bits ∙ length-all_set cleared heads ∙ clear.len ∙ s.work.marked_len;
+        work_len = keeps.room ∙ s.work.work_len;
+        order = omega arith;
+        few = omega (arith, keeps.few, s.roots.bits.len);
+        entries = λ k b.
+            let len : length heads ≡ pushed = length-take-le pushed work (omega (arith, keeps.few, keeps.room, s.roots.bits.len, s.work.work_len)) in
+            let same = get_or-take pushed work k 0 b in
+            let t = can_below p.firsts p.roots cleared (length p.roots) (item_count z) heads s.units.in_range keeps.can (get_or heads k 0) (get_or_among heads k 0 (omega arith)) in
+            omega arith;
+      };
+      idle = λ ne. absurd (ne refl);
+      marks = λ e. subst (λ (bits : List Bool). MarksShow p.objects (after h).units bits heads heads end.marks.kept end.marks.fresh end.marks.scanned) (sym keeps.bits) ran.marks;
+    };
+    stock = s.stock;
+    ends = record { removed = removed_marking; gone = s.gone; order = s.order; gathers = λ e. absurd cc; queue = λ e. absurd cc; none_asked = λ ne. ran.asked };
   }
-    where
-      out : (x : ℕ) → (Among heads x → ⊥) → (get_or cleared x false ≡ true) ⊎ Among heads x → ⊥
-      out x g (inl is) = let none = all_clear x in cc
-      out x g (inr a) = g a
-
-  same_end : record end { world = s1.world; frames = s1.frames } ≡ end
-  same_end = λ t. record { world = sym ran.world t; marks = end.marks; frames = sym ran.frames t; slices = end.slices; collector = end.collector }
 
   whole : new ≡ h ++ started_entry ∷ notes
   whole = keeps.entries ∙ append_assoc h (started_entry ∷ []) notes
-
-  pub started_plain : IsPlain z q (h ++ started_entry ∷ notes)
-  started_plain = plain_more z p q h (started_entry ∷ notes) was (may_start, ran.legal) (subst (λ (t : State). Shows z q t) same_end shows_end)
-
-  pub started_invariant : IsPlain z q new
-  started_invariant = subst (λ (es : List Entry). IsPlain z q es) (sym whole) started_plain
 
   each_root : (u : List Name) → IsUnit (graph (after h)) u → IsRootUnit (graph (after h)) u → list_any (has u) of ≡ true
   each_root u unit (r, has_r, inl rooted) =
@@ -339,17 +282,10 @@ module _ (z : Sizes) (p : Parts) (h new : List Entry) (cleared marked : List Boo
       listed x (inr a) = a
   each_root u unit (r, has_r, inr (lane, number, is)) = absurd (let none = s.roots.no_strong lane number in cc)
 
-  pub started_appends : Appends z h new Collector (act.BeginGc begin.Started)
-  started_appends = record {
-    acts = act.BeginGc begin.Started ∷ map act.Kept of;
-    call = record { of = of; are = refl; roots = ran.roots; each = each_root };
-    grown = whole;
-    legal = started_invariant.legal;
-  }
-
-  pub started_held : (k : ℕ) (r : Ref) → Holds record { history = h; names = p.names } k r → Holds record { history = new; names = p.names } k r
-  started_held k r held = subst (λ (es : List Entry). Holds record { history = es; names = p.names } k r) (sym whole)
-      (holds_more h (started_entry ∷ notes) p.names k r (λ e. subst (λ (f : ℕ → Frame). has (f k).held r.name ≡ true) (sym ran.frames) e) held)
+  pub started : Done z q h new Collector (act.BeginGc begin.Started)
+  started = subst (λ (es : List Entry). Done z q h es Collector (act.BeginGc begin.Started)) (sym whole)
+      (does Collector (act.BeginGc begin.Started) (act.BeginGc begin.Started ∷ map act.Kept of) was (record { of = of; are = refl }, record { roots = ran.roots; each = each_root }) (may_start, ran.legal)
+      (subst (λ (w : World). ShowsWorld z q w end.marks.kept end.marks.fresh end.marks.scanned end.collector.asked) (sym ran.world) shows_end))
 
 -- ---- what the call finds
 
@@ -361,10 +297,10 @@ start_facts phase left opened (begin.Purging n) m e = absurd cc
 start_facts phase left opened (begin.Frames n) m e = absurd cc
 
 -- there is a name at the head of a rooted object's unit
-pub head_named : (z : Sizes) (p : Parts) (h : List Entry) → IsPlain z p h → (i : ℕ) → get_or p.roots i false ≡ true → IsSome (name_at p.names (first_at p.firsts i))
-head_named z p h was i e =
+pub head_named : {z : Sizes} {p : Parts} {h : List Entry} → IsPlain z p h → (i : ℕ) → get_or p.roots i false ≡ true → IsSome (name_at p.names (first_at p.firsts i))
+head_named {z} {p} {h} was i e =
     let s = was.shows in
-    let root = root_at s.names s.roots i e in
+    let root = root_at s.names s.units s.roots (named_lives_holds z h was.legal).rooted i e in
     let unit = s.units.each i root.1.life in
     let member = member_at s.units (first_at p.firsts i) unit.0 unit.1 in
     ap (λ (o : Option Name). is_some o) member.1.name

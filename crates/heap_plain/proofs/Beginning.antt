@@ -8,47 +8,40 @@ use Rattle.std.proofs.lemmas.List.{get_or-replicate, get_or_past, length-replica
 use Rattle.std.proofs.lemmas.List.Folds.{sum_by-replicate}
 use Rattle.world_model.specs.Sizes.{Sizes, IsLawful, item_count}
 use Rattle.world_model.proofs.Queues.{queue_start}
+use Rattle.world_model.proofs.Between.{beginning_between}
 use Rattle.heap_plain.specs.Types.{Name, Kind, Idle}
 use Rattle.heap_plain.specs.declared.life.Life.{Life}
 use Rattle.heap_plain.specs.declared.life.Life.TheVariants.{Free, Live}
 use Rattle.heap_plain.specs.Parts.{Parts, Lists, name_at, life_at, no_kind, target_at, is_gone}
 use Rattle.heap_plain.specs.Stacks.{full_stacks}
-use Rattle.heap_plain.specs.Sections.{rooted_at, gone_world, FreeShows, free_at, spare_at}
+use Rattle.heap_plain.specs.Roots.{rooted_at}
+use Rattle.heap_plain.specs.Stocking.{FreeShows, free_at, spare_at}
+use Rattle.heap_plain.specs.Destroying.{gone_world}
 use Rattle.heap_plain.specs.Plain.{IsPlain}
 use Rattle.heap_plain.proofs.Stacking.{length-full_stacks, get_or-full_stacks}
 
 -- the vectors of a new heap
 abbrev pub new_parts : ℕ → ℕ → ℕ → Parts
 new_parts lanes quota slots = record {
-  names = replicate (lanes * quota) None;
-  firsts = replicate (lanes * quota) 0;
-  sizes = replicate (lanes * quota) 0;
-  next = replicate (lanes * quota) 0;
-  kinds = replicate (lanes * quota) no_kind;
-  targets = replicate (lanes * quota * slots) None;
-  plains = replicate (lanes * quota * slots) 0;
-  lives = replicate (lanes * quota) Free;
+  gate = record { phase = Idle; frames = replicate lanes false };
+  objects = record { names = replicate (lanes * quota) None; firsts = replicate (lanes * quota) 0; sizes = replicate (lanes * quota) 0; next = replicate (lanes * quota) 0; lives = replicate (lanes * quota) Free };
+  rows = record { kinds = replicate (lanes * quota) no_kind; targets = replicate (lanes * quota * slots) None; plains = replicate (lanes * quota * slots) 0 };
   roots = replicate (lanes * quota) false;
   garbage = replicate (lanes * quota) false;
-  marked = replicate (lanes * quota) false;
-  work = replicate (lanes * quota) 0;
-  scanned = 0;
-  pushed = 0;
-  free = full_stacks quota lanes;
-  spare = replicate lanes quota;
-  made = replicate lanes 0;
-  frames = replicate lanes false;
-  phase = Idle;
-  left = 0;
-  swept = 0;
-  order = replicate (lanes * quota) 0;
-  listed = 0;
-  begun = 0;
-  from = 0;
-  kept = 0;
-  polls = replicate (lanes * quota) 0;
-  waiting = replicate (lanes * quota) 0;
-  done = None;
+  colours = record { marked = replicate (lanes * quota) false; work = replicate (lanes * quota) 0; scanned = 0; pushed = 0 };
+  stock = record { free = full_stacks quota lanes; spare = replicate lanes quota; made = replicate lanes 0 };
+  ends = record {
+    left = 0;
+    swept = 0;
+    order = replicate (lanes * quota) 0;
+    listed = 0;
+    begun = 0;
+    from = 0;
+    kept = 0;
+    polls = replicate (lanes * quota) 0;
+    waiting = replicate (lanes * quota) 0;
+    done = None;
+  };
 }
 
 -- one value many times is that value everywhere, and past the end
@@ -79,7 +72,7 @@ spare_all : (z : Sizes) (lane : ℕ) → lane < z.lanes → spare_at (replicate 
 spare_all z lane h = get_or-replicate z.lanes lane z.quota 0 h
 
 -- all indexes are free
-all_free : (z : Sizes) → FreeShows z (replicate (item_count z) None) (replicate (item_count z) Free) (full_stacks z.quota z.lanes) (replicate z.lanes z.quota) [] []
+all_free : (z : Sizes) → FreeShows z (replicate (item_count z) None) (replicate (item_count z) Free) (full_stacks z.quota z.lanes) (replicate z.lanes z.quota) (λ lane. 0)
 all_free z = record {
   free_len = length-full_stacks z.quota z.lanes;
   spare_len = length-replicate _ _;
@@ -104,77 +97,68 @@ all_free z = record {
 begins : (z : Sizes) → IsLawful z → IsPlain z (new_parts z.lanes z.quota z.slots) []
 begins z lawful = record {
   legal = tt;
+  rest = record { between = beginning_between; roots = λ e. absurd cc };
   shows = record {
-    phase = refl;
-    frames = record { lanes = all_same z.lanes false; count = sum_by-replicate _ z.lanes false ∙ omega arith; once = tt; alone = refl };
-    names = record {
-      counts = all_same z.lanes 0;
-      items = length-replicate _ _;
-      places = λ i n e. absurd (no_name _ i n e);
-      alone = λ i j n e. absurd (no_name _ i n e);
-      few_names = λ lane h. omega arith;
+    gate = record { phase = refl; frames = record { lanes = all_same z.lanes false; count = sum_by-replicate _ z.lanes false ∙ omega arith } };
+    objects = record {
+      names = record { items = length-replicate _ _; places = λ i n e. absurd (no_name _ i n e); alone = λ i j n e. absurd (no_name _ i n e) };
+      units = record {
+        firsts_len = length-replicate _ _;
+        sizes_len = length-replicate _ _;
+        links_len = length-replicate _ _;
+        lives_len = length-replicate _ _;
+        in_range = λ i. rw (same_everywhere {A = ℕ} (item_count z) i 0) (some_items z lawful);
+        small = λ i. rw (same_everywhere {A = ℕ} (item_count z) i 0) (omega arith);
+        named = λ i ne. absurd (none_used _ i ne);
+        each = λ i e. absurd (none_live _ i e);
+        all = λ u h. absurd h;
+      };
     };
-    units = record {
-      firsts_len = length-replicate _ _;
-      sizes_len = length-replicate _ _;
-      links_len = length-replicate _ _;
-      lives_len = length-replicate _ _;
-      in_range = λ i. rw (same_everywhere {A = ℕ} (item_count z) i 0) (some_items z lawful);
-      small = λ i. rw (same_everywhere {A = ℕ} (item_count z) i 0) (omega arith);
-      named = λ i ne. absurd (none_used _ i ne);
-      each = λ i e. absurd (none_live _ i e);
-      all = λ u h. absurd h;
+    rows = record {
+      kinds = record {
+        len = length-replicate _ _;
+        each = λ i n e. absurd (no_name _ i n e);
+        fit = λ i. let none : get_or (replicate (item_count z) no_kind) i no_kind ≡ no_kind = same_everywhere {A = Kind} (item_count z) i no_kind in
+            rw none (omega arith);
+      };
+      cells = record {
+        targets_len = length-replicate _ _;
+        plains_len = length-replicate _ _;
+        in_range = λ i slot t below e. absurd (let none : target_at z.slots (replicate (item_count z * z.slots) None) i slot ≡ None = same_everywhere {A = Option ℕ} (item_count z * z.slots) (i * z.slots + slot) None in cc);
+        aims = λ i n slot there. absurd (no_name _ i n there.name);
+        no_more = λ i n slot there. absurd (no_name _ i n there.name);
+        numbers = λ i n slot there. absurd (no_name _ i n there.name);
+        unmade_plain = λ n slot more. refl;
+      };
     };
-    distinct = tt;
     roots = record {
       bits = record { len = length-replicate _ _; each = λ k d below. get_or-replicate (item_count z) k false d below ∙ sym (ap (rooted_at (λ (n : Name). false)) (same_everywhere {A = Option Name} (item_count z) k None)) };
-      living = λ n e. absurd cc;
       no_strong = λ lane number. refl;
     };
-    held = record { living = λ lane n e. absurd cc; closed = λ lane e. refl; paid = λ lane. refl; whole = λ lane. refl };
-    work = record { marked_len = length-replicate _ _; work_len = length-replicate _ _; order = omega arith; few = omega arith; entries = λ k h. absurd (omega arith) };
-    idle = λ ne. refl;
-    marks = λ e. absurd cc;
-    roots_marked = λ e. absurd cc;
-    kinds = record {
-      len = length-replicate _ _;
-      each = λ i n e. absurd (no_name _ i n e);
-      fit = λ i. let none : get_or (replicate (item_count z) no_kind) i no_kind ≡ no_kind = same_everywhere {A = Kind} (item_count z) i no_kind in
-          rw none (omega arith);
-    };
-    cells = record {
-      targets_len = length-replicate _ _;
-      plains_len = length-replicate _ _;
-      in_range = λ i slot t below e. absurd (let none : target_at z.slots (replicate (item_count z * z.slots) None) i slot ≡ None = same_everywhere {A = Option ℕ} (item_count z * z.slots) (i * z.slots + slot) None in cc);
-      aims = λ i n slot there. absurd (no_name _ i n there.name);
-      no_more = λ i n slot there. absurd (no_name _ i n there.name);
-      numbers = λ i n slot there. absurd (no_name _ i n there.name);
-      unmade = λ n slot more. refl;
-      unmade_plain = λ n slot more. refl;
-    };
-    black = λ e. absurd cc;
-    removed = record {
-      swept_is = refl;
-      swept_few = omega arith;
-      polls_len = length-replicate _ _;
-      removed = λ i n e life. absurd (no_name _ i n e);
-      gone = λ r h. absurd h;
-      distinct = tt;
-      fresh = λ e. absurd cc;
-      found_is = λ e. absurd cc;
-      left_is = refl;
-      left_few = λ e. omega arith;
-      none_left = λ e. refl;
-    };
-    gone = record { waiting_len = length-replicate _ _; distinct = tt; each = λ i e. absurd (none_gone _ i e); all = λ u n h. absurd h };
-    order = record { len = length-replicate _ _; listed_few = omega arith; begun_few = omega arith; from_few = omega arith; kept_few = omega arith; early = λ e. refl };
-    gathers = λ e. absurd cc;
-    queue = λ e. record { todo = []; ring = []; ready = None; todo_at = tt; ring_at = tt; ready_at = tt; queue = queue_start (gone_world [] [] []) refl refl refl (λ r a. absurd a) (λ n. refl) };
-    free = all_free z;
-    none_agreed = refl;
-    none_asked = λ ne. refl;
-    no_steps = refl;
     garbage = record { len = length-replicate _ _; each = λ i n there. absurd (no_name _ i n there.name) };
+    colours = record {
+      work = record { marked_len = length-replicate _ _; work_len = length-replicate _ _; order = omega arith; few = omega arith; entries = λ k h. absurd (omega arith) };
+      idle = λ ne. refl;
+      marks = λ e. absurd cc;
+    };
+    stock = record { made = all_same z.lanes 0; free = all_free z };
+    ends = record {
+      removed = record {
+        swept_is = refl;
+        swept_few = omega arith;
+        polls_len = length-replicate _ _;
+        removed = λ i n e life. absurd (no_name _ i n e);
+        gone = λ r h. absurd h;
+        found_is = λ e. absurd cc;
+        left_is = refl;
+        left_few = λ e. omega arith;
+      };
+      gone = record { waiting_len = length-replicate _ _; each = λ i e. absurd (none_gone _ i e); all = λ u n h. absurd h };
+      order = record { len = length-replicate _ _; listed_few = omega arith; begun_few = omega arith; from_few = omega arith; kept_few = omega arith; early = λ e. refl };
+      gathers = λ e. absurd cc;
+      queue = λ e. record { todo = []; ring = []; ready = None; todo_at = tt; ring_at = tt; ready_at = tt; queue = queue_start (gone_world [] [] []) refl refl refl (λ r a. absurd a) (λ n. refl) };
+      none_asked = λ ne. refl;
+    };
   };
 }
 

@@ -8,17 +8,19 @@ use Rattle.std.proofs.lemmas.List.{length-set, get_or-set_same, get_or-set_other
 use Rattle.world_model.specs.Sizes.{Sizes, item_count}
 use Rattle.world_model.specs.NameLists.{same_name, set_at, set_name}
 use Rattle.world_model.proofs.NameFacts.{same_name_true, same_name_refl, set_at_same}
+use Rattle.world_model.proofs.ListFacts.{among_left, among_right}
 use Rattle.heap_plain.specs.Types.{Name, Kind}
 use Rattle.heap_plain.specs.declared.life.Life.{Life}
 use Rattle.heap_plain.specs.Parts.{name_at, first_at, kind_at, target_at}
-use Rattle.heap_plain.specs.Sections.{NamesShow, LivesAt, Aims, KindsShow, CellsShow, TargetsMarked}
-use Rattle.heap_plain.proofs.WorldFacts.{set_at_other, among_left, among_right}
+use Rattle.heap_plain.specs.Units.{NamesShow, LivesAt}
+use Rattle.heap_plain.specs.Cells.{Aims, KindsShow, CellsShow}
+use Rattle.heap_plain.proofs.WorldFacts.{set_at_other}
 use Rattle.heap_plain.proofs.Fillings.{same_row, row_below}
 use Rattle.heap_plain.proofs.Standing.{name_below}
 
 -- ---- what a cell holds
 
-pub aims_map : {names ns : List (Option Name)} {lives ls : List Life} (o : Option ℕ) (c : Option Name) → ((t : ℕ) (m : Name) → o ≡ Some t → LivesAt names lives t m → LivesAt ns ls t m) → Aims names lives o c → Aims ns ls o c
+pub aims_map : {names ns : List (Option Name)} {lives ls : List Life} (o : Option ℕ) (c : Option Name) → ((t : ℕ) (m : Name) → c ≡ Some m → LivesAt names lives t m → LivesAt ns ls t m) → Aims names lives o c → Aims ns ls o c
 aims_map None None f a = tt
 aims_map None (Some m) f a = absurd a
 aims_map (Some t) None f a = absurd a
@@ -53,16 +55,15 @@ cell_below {z} {stored = stored} ks s i n slot m there e = let b = cell_ref s i 
 -- where an object that is left lives as it did, and so do those that its cells name
 pub cells_less : {z : Sizes} {names ns : List (Option Name)} {lives ls : List Life} {stored : List Kind} {targets : List (Option ℕ)} {plains : List ℕ} {kinds : ℕ → List Kind} {cell : Name → ℕ → Option Name} {plain : Name → ℕ → ℕ}
     → ((i : ℕ) (n : Name) → LivesAt ns ls i n → LivesAt names lives i n)
-    → ((i : ℕ) (n : Name) (slot t : ℕ) (m : Name) → LivesAt ns ls i n → slot < z.slots → target_at z.slots targets i slot ≡ Some t → LivesAt names lives t m → LivesAt ns ls t m)
+    → ((i : ℕ) (n : Name) (slot t : ℕ) (m : Name) → LivesAt ns ls i n → cell n slot ≡ Some m → LivesAt names lives t m → LivesAt ns ls t m)
     → CellsShow z names lives stored targets plains kinds cell plain → CellsShow z ns ls stored targets plains kinds cell plain
 cells_less {z} {targets = targets} {cell = cell} was stays s = record {
   targets_len = s.targets_len;
   plains_len = s.plains_len;
   in_range = s.in_range;
-  aims = λ i n slot there below. aims_map (target_at z.slots targets i slot) (cell n slot) (λ t m e. stays i n slot t m there below e) (s.aims i n slot (was i n there) below);
+  aims = λ i n slot there below. aims_map (target_at z.slots targets i slot) (cell n slot) (λ t m e. stays i n slot t m there e) (s.aims i n slot (was i n there) below);
   no_more = λ i n slot there. s.no_more i n slot (was i n there);
   numbers = λ i n slot there. s.numbers i n slot (was i n there);
-  unmade = s.unmade;
   unmade_plain = s.unmade_plain;
 }
 
@@ -78,8 +79,8 @@ written_else {A} f n m slot s v ne = go (same_name m n) refl
     go false e = refl
     go true e = let same = same_name_true m n e in set_at_other (f n) slot s v (ne same) ∙ ap (λ (x : Name). f x s) (sym same)
 
-module _ {z : Sizes} {names : List (Option Name)} {made : List ℕ} {lives : List Life} {stored : List Kind} {targets : List (Option ℕ)} {plains : List ℕ} {kinds : ℕ → List Kind} {cell : Name → ℕ → Option Name} {plain : Name → ℕ → ℕ} (i : ℕ) (n : Name) (slot : ℕ)
-    (ns : NamesShow z names made kinds) (here : LivesAt names lives i n) (below : slot < z.slots) (s : CellsShow z names lives stored targets plains kinds cell plain) where
+module _ {z : Sizes} {names : List (Option Name)} {lives : List Life} {stored : List Kind} {targets : List (Option ℕ)} {plains : List ℕ} {kinds : ℕ → List Kind} {cell : Name → ℕ → Option Name} {plain : Name → ℕ → ℕ} (i : ℕ) (n : Name) (slot : ℕ)
+    (ns : NamesShow z names kinds) (here : LivesAt names lives i n) (below : slot < z.slots) (s : CellsShow z names lives stored targets plains kinds cell plain) where
   abbrev place : ℕ
   place = i * z.slots + slot
 
@@ -107,7 +108,6 @@ module _ {z : Sizes} {names : List (Option Name)} {made : List ℕ} {lives : Lis
         (subst (λ (c : Option Name). Aims names lives (target_at z.slots targets j k) c) (sym (written_else cell n m slot k to_name (elsewhere j m k there ne))) (s.aims j m k there low)));
     no_more = λ j m k there over. written_else cell n m slot k to_name (λ same at. absurd (beyond j m k there over same at)) ∙ s.no_more j m k there over;
     numbers = s.numbers;
-    unmade = λ m k more. written_else cell n m slot k to_name (λ same at. not_made m more same) ∙ s.unmade m k more;
     unmade_plain = s.unmade_plain;
   }
     where
@@ -131,12 +131,6 @@ module _ {z : Sizes} {names : List (Option Name)} {made : List ℕ} {lives : Lis
           let refs : (kind_at stored j).refs ≡ (kind_at stored i).refs = ap (λ (x : ℕ). (kind_at stored x).refs) row in
           omega arith
 
-      not_made : (m : Name) → length (kinds m.lane) < m.count → m ≡ n → ⊥
-      not_made m more same =
-          let count : m.count ≡ n.count = ap (λ (x : Name). x.count) same in
-          let len : length (kinds m.lane) ≡ length (kinds n.lane) = ap (λ (x : Name). length (kinds x.lane)) same in
-          omega (arith, made_it)
-
   pub numbers_write : (value : ℕ) → CellsShow z names lives stored targets (set plains place value) kinds cell (set_name plain n (set_at (plain n) slot value))
   numbers_write value = record {
     targets_len = s.targets_len;
@@ -153,34 +147,8 @@ module _ {z : Sizes} {names : List (Option Name)} {made : List ℕ} {lives : Lis
         ap (λ (x : ℕ). get_or (set plains place value) x 0) at ∙ get_or-set_same plains place value 0 (omega (arith, place_below, s.plains_len))
         ∙ sym ((λ t. set_name plain n (set_at (plain n) slot value) (name t) (col t)) ∙ written_there plain n slot value))
         (λ (ne : j * z.slots + k ≢ place). get_or-set_other plains place (j * z.slots + k) value 0 ne ∙ s.numbers j m k there low ∙ sym (written_else plain n m slot k value (elsewhere j m k there ne)));
-    unmade = s.unmade;
     unmade_plain = λ m k more. written_else plain n m slot k value (λ same at.
         let count : m.count ≡ n.count = ap (λ (x : Name). x.count) same in
         let len : length (kinds m.lane) ≡ length (kinds n.lane) = ap (λ (x : Name). length (kinds x.lane)) same in
         absurd (omega (arith, made_it))) ∙ s.unmade_plain m k more;
   }
-
--- ---- marks
-
--- a cell is written that names a marked unit
-pub targets_write : {slots : ℕ} {firsts : List ℕ} {targets : List (Option ℕ)} {lives : List Life} {marked : List Bool} {grey : List ℕ} (place : ℕ) (to : Option ℕ) → place < length targets → ((t : ℕ) → to ≡ Some t → get_or marked (first_at firsts t) false ≡ true)
-    → TargetsMarked slots firsts targets lives marked grey → TargetsMarked slots firsts (set targets place to) lives marked grey
-targets_write {slots} {targets = targets} place to inside shaded k = record {
-  each = λ i slot t live below at m g. dite (ℕ_discrete (i * slots + slot) place)
-      (λ (e : i * slots + slot ≡ place). shaded t (sym (get_or-set_same targets place to None inside) ∙ ap (λ (x : ℕ). get_or (set targets place to) x None) (sym e) ∙ at))
-      (λ (ne : i * slots + slot ≢ place). k.each i slot t live below (sym (get_or-set_other targets place (i * slots + slot) to None ne) ∙ at) m g);
-}
-
--- a white unit is marked, and grey
-pub targets_push : {slots : ℕ} {firsts : List ℕ} {targets : List (Option ℕ)} {lives : List Life} {marked : List Bool} {grey : List ℕ} (head : ℕ) → head < length marked
-    → TargetsMarked slots firsts targets lives marked grey → TargetsMarked slots firsts targets lives (set marked head true) (grey ++ head ∷ [])
-targets_push {firsts = firsts} {marked = marked} {grey} head inside k = record {
-  each = λ i slot t live below at m g. dite (ℕ_discrete (first_at firsts i) head)
-      (λ (e : first_at firsts i ≡ head). absurd (g (among_right grey (head ∷ []) (first_at firsts i) (inl (sym e)))))
-      (λ (ne : first_at firsts i ≢ head). still (first_at firsts t) (k.each i slot t live below at (sym (get_or-set_other marked head (first_at firsts i) true false ne) ∙ m) (λ a. g (among_left grey (head ∷ []) (first_at firsts i) a))));
-}
-  where
-    still : (x : ℕ) → get_or marked x false ≡ true → get_or (set marked head true) x false ≡ true
-    still x e = dite (ℕ_discrete x head)
-        (λ (here : x ≡ head). ap (λ (j : ℕ). get_or (set marked head true) j false) here ∙ get_or-set_same marked head true false inside)
-        (λ (ne : x ≢ head). get_or-set_other marked head x true false ne ∙ e)

@@ -1,6 +1,6 @@
 -- Making a unit.
 use Rattle.std.proofs.Common.{◌≡◌, ◌≢◌, ℕ, ◌+◌, ◌-◌, ◌*◌, ◌<◌, ◌≤◌, ◌==◌, ◌||◌, ◌&&◌, not, refl, sym, subst, ap, ◌∙◌, inl, inr, arith, Bool, true, false, List, [], ◌∷◌, ◌++◌, length, length-append, get_or, ◌⊎◌, count_by, append-nil, slice_get, Option, Some, None}
-use Rattle.std.specs.List.{list_any, list_all, flat_map}
+use Rattle.std.specs.List.{list_any, list_all}
 use Rattle.std.proofs.Math.ListN.{set}
 use Rattle.std.proofs.Math.Logic.{dite}
 use Rattle.std.proofs.Math.Decide.{ℕ_discrete}
@@ -9,43 +9,49 @@ use Rattle.std.proofs.lemmas.List.Folds.{list_any-append}
 use Rattle.std.proofs.lemmas.List.Sums.{sum_by-append}
 use Rattle.std.proofs.lemmas.Grind.{flat_map-append}
 use Rattle.world_model.specs.Sizes.{Sizes, item_count}
-use Rattle.world_model.specs.NameLists.{same_name, has, names_from, members, set_at, same_pass}
-use Rattle.world_model.specs.World.{World, is_open, made, unit_of, Removal}
-use Rattle.world_model.specs.State.{Frame, State}
-use Rattle.world_model.specs.Next.{next_world}
+use Rattle.world_model.specs.NameLists.{same_name, has, names_from, members, set_at}
+use Rattle.world_model.specs.World.{made, occupied, Removal}
+use Rattle.world_model.specs.State.{Marks, State}
+use Rattle.world_model.specs.Next.{with_unit}
 use Rattle.world_model.specs.LaneSteps.{is_lawful}
 use Rattle.world_model.specs.Histories.{after, state_of, MayBy}
-use Rattle.world_model.proofs.ListFacts.{Among, among_append, and_true, or_true, or_right}
-use Rattle.world_model.proofs.NameFacts.{names_from_range, set_at_same}
-use Rattle.world_model.proofs.Units.{AreApart, next_apart, units_apart}
+use Rattle.world_model.specs.Engines.{IsInFrame, IsOfLane}
+use Rattle.world_model.proofs.ListFacts.{Among, among_append, and_true, or_right, among_left, among_right, test_among, among_test}
+use Rattle.world_model.proofs.NameFacts.{names_from_range, set_at_same, has_among, among_has}
+use Rattle.world_model.proofs.Barrier.{IsBarred, barred}
+use Rattle.world_model.proofs.Giving.{given_is_held_holds}
 use Rattle.world_model.proofs.Invalid.{garbage_is_marked_holds}
-use Rattle.heap_plain.specs.Types.{Name, Ref, Kind, Lane, Phase, Entry}
+use Rattle.heap_plain.specs.Types.{Name, Ref, Kind, Lane, Marking, Entry}
 use Rattle.heap_plain.specs.Types.act
 use Rattle.heap_plain.specs.declared.life.Life.{Life}
 use Rattle.heap_plain.specs.declared.life.Life.TheVariants.{Free, Live}
-use Rattle.heap_plain.specs.Parts.{Parts, name_at, life_at, first_at, next_at, kind_at, target_at, plain_at, is_gone, stage_of, Holds}
+use Rattle.heap_plain.specs.Parts.{Parts, Objects, Lists, name_at, life_at, first_at, next_at, kind_at, target_at, plain_at, is_gone, stage_of, Holds}
 use Rattle.heap_plain.specs.Sweeping.{removed_name}
 use Rattle.heap_plain.specs.Filling.{FilledAt, RowsFilled}
 use Rattle.heap_plain.specs.Stacks.{popped}
-use Rattle.world_model.specs.Engines.{IsOfLane}
-use Rattle.heap_plain.specs.Sections.{Distinct, NamesShow, IsPlace, UnitsShow, StandsAt, LivesAt, AreLinked, RootsShow, rooted_at, GarbageShow, HeldShow, WorkShows, MarksShow, RootsMarked, RemovedShow, GoneShow, LiesAt, KindsShow, CellsShow, Aims, TargetsMarked, FreeShows, spare_at, pushed_of, grey_of}
+use Rattle.heap_plain.specs.Units.{NamesShow, IsPlace, UnitsShow, StandsAt, LivesAt, AreLinked}
+use Rattle.heap_plain.specs.Roots.{RootsShow, rooted_at, GarbageShow}
+use Rattle.heap_plain.specs.Cells.{KindsShow, CellsShow, Aims}
+use Rattle.heap_plain.specs.Colouring.{WorkShows, MarksShow, pushed_of, grey_of}
+use Rattle.heap_plain.specs.Stocking.{FreeShows, spare_at}
+use Rattle.heap_plain.specs.Destroying.{RemovedShow, GoneShow, LiesAt}
 use Rattle.heap_plain.specs.Plain.{Shows, IsPlain}
-use Rattle.heap_plain.proofs.WorldFacts.{at_set, set_at_other, has_among, among_has, among_left, among_right, test_among, among_test, any_same, unit_of_is, state_more}
+use Rattle.heap_plain.proofs.WorldFacts.{at_set, set_at_other, any_same}
 use Rattle.heap_plain.proofs.Fillings.{Lists-set, Lists-same}
-use Rattle.heap_plain.proofs.Entries.{plain_more}
+use Rattle.heap_plain.proofs.Resting.{in_open, holds_call}
+use Rattle.heap_plain.proofs.Entries.{Done, does}
 use Rattle.heap_plain.proofs.Queueing.{queue_more, gather_more}
 use Rattle.heap_plain.proofs.Kinding.{slice_left, slice_right, lawful_fits}
-use Rattle.heap_plain.proofs.Cells.{aims_map, aims_target}
+use Rattle.heap_plain.proofs.Cells.{aims_map}
 use Rattle.heap_plain.proofs.Finding.{removed_same_names}
-use Rattle.heap_plain.proofs.Standing.{one_head, live_used, bit_below, links_same}
+use Rattle.heap_plain.proofs.Standing.{one_head, live_used, links_same, lives_at}
 use Rattle.heap_plain.proofs.Popping.{lane_below, Where, where_is, popped_lane, popped_free, free_popped}
-use Rattle.heap_plain.proofs.NewNames.{length-names_from, has_in_row, row_place, distinct_row, count_row, among_members, distinct_append, given_members, members_given}
+use Rattle.heap_plain.proofs.NewNames.{length-names_from, has_in_row, row_place, count_row}
 
 -- a creation, and what its writes leave of the vectors
 pub record Creation (z : Sizes) (p : Parts) (h : List Entry) (l m : ℕ) (more : List Kind) (ns : List (Option Name)) (fs nx : List ℕ) (ks : List Kind) (ts : List (Option ℕ)) (ps : List ℕ) (ls : List Life) (gs : List Bool) : Type 0 where
   pub was : IsPlain z p h
-  pub lane : l < z.lanes
-  pub opened : is_open (after h) (Lane l) ≡ true
+  pub frame : IsInFrame z h l
   pub is : m ≡ made (after h) l
   pub some : 1 ≤ length more
   pub few : length more ≤ 1024
@@ -90,12 +96,20 @@ module _ {z : Sizes} {p : Parts} {h : List Entry} {l m : ℕ} {more : List Kind}
   abbrev marked' : List Bool
   marked' = set p.marked first true
 
+  -- the objects after it
+  abbrev o' : Objects
+  o' = record { names = ns; firsts = fs; sizes = sizes'; next = nx; lives = ls }
+
+  -- what barriers keep
+  known : IsBarred (state_of h)
+  known = barred z h new.was.legal
+
   within : first < item_count z
-  within = lane_below new.lane (popped_lane s.free l (length more) new.lane new.room 0 new.some)
+  within = lane_below new.frame.in_range (popped_lane s.free l (length more) new.frame.in_range new.room 0 new.some)
 
   -- no object was at a new index
   no_name : (k : ℕ) → k < length more → name_at p.names (at k) ≡ None
-  no_name k below = s.free.nameless (at k) (popped_free s.free l (length more) new.lane new.room k below)
+  no_name k below = s.free.nameless (at k) (popped_free s.free l (length more) new.frame.in_range new.room k below)
 
   named_out : (i : ℕ) (n : Name) → name_at p.names i ≡ Some n → out_of i
   named_out i n e = λ k below same. let none = no_name k below in let there : name_at p.names (at k) ≡ name_at p.names i = ap (name_at p.names) same in absurd cc
@@ -168,12 +182,9 @@ module _ {z : Sizes} {p : Parts} {h : List Entry} {l m : ℕ} {more : List Kind}
   own_kinds : length (new_kinds l) ≡ m + length more
   own_kinds = let len = length-append ((after h).kinds l) more in ap (λ (x : List Kind). length x) (set_at_same (after h).kinds l ((after h).kinds l ++ more)) ∙ len ∙ ap (λ k. k + length more) (sym new.is)
 
-  most : (limit k : ℕ) → length ((after h).kinds k) ≤ limit → m + length more ≤ limit → length (new_kinds k) ≤ limit
-  most limit k before here = at_set (λ (x : List Kind). length x ≤ limit) (after h).kinds l k ((after h).kinds l ++ more) (λ e. omega (arith, length-append ((after h).kinds l) more)) (λ ne. before)
-
   place_new : (i : ℕ) (n : Name) → Where at (length more) i → name_at ns i ≡ Some n → IsPlace z new_kinds n i
   place_new i n (inl w) e = subst (λ (x : Name). IsPlace z new_kinds x i) (sym (name_is w.0 i n w.1 w.2 e))
-      (record { lane = new.lane; some = omega arith; few = omega (arith, own_kinds, w.1); at = subst (λ (j : ℕ). IsOfLane z l j) (sym w.2) (popped_lane s.free l (length more) new.lane new.room w.0 w.1) })
+      (record { lane = new.frame.in_range; some = omega arith; few = omega (arith, own_kinds, w.1); at = subst (λ (j : ℕ). IsOfLane z l j) (sym w.2) (popped_lane s.free l (length more) new.frame.in_range new.room w.0 w.1) })
   place_new i n (inr o) e = let place = s.names.places i n (sym (name_out i o) ∙ e) in record { lane = place.lane; some = place.some; few = omega (arith, place.few, grown n.lane); at = place.at }
 
   new_name : (k i : ℕ) (n : Name) → k < length more → i ≡ at k → name_at ns i ≡ Some n → has unit n ≡ true
@@ -188,19 +199,20 @@ module _ {z : Sizes} {p : Parts} {h : List Entry} {l m : ℕ} {more : List Kind}
   alone_new i j n a b (inr o) (inl w) = absurd (old_name i n (sym (name_out i o) ∙ a) (new_name w.0 j n w.1 w.2 b))
   alone_new i j n a b (inr o) (inr q) = s.names.alone i j n (sym (name_out i o) ∙ a) (sym (name_out j q) ∙ b)
 
-  names_new : NamesShow z ns (set p.made l (m + length more)) new_kinds
+  names_new : NamesShow z ns new_kinds
   names_new = record {
-    counts = Lists-set p.made z.lanes l (m + length more) (λ k. length ((after h).kinds k)) (λ k. length (new_kinds k)) s.names.counts new.lane own_kinds
-        (λ k ne. ap (λ (x : List Kind). length x) (set_at_other (after h).kinds l k ((after h).kinds l ++ more) ne));
     items = new.by_name.len ∙ s.names.items;
     places = λ i n e. place_new i n (where_is at (length more) i) e;
     alone = λ i j n a b. alone_new i j n a b (where_is at (length more) i) (where_is at (length more) j);
-    few_names = λ k b. most z.names k (s.names.few_names k b) new.names_left;
   }
+
+  made_new : Lists (set p.made l (m + length more)) z.lanes (λ k. length (new_kinds k))
+  made_new = Lists-set p.made z.lanes l (m + length more) (λ k. length ((after h).kinds k)) (λ k. length (new_kinds k)) s.made new.frame.in_range own_kinds
+      (λ k ne. ap (λ (x : List Kind). length x) (set_at_other (after h).kinds l k ((after h).kinds l ++ more) ne))
 
   -- ---- units
 
-  stands_old : (head : ℕ) (u : List Name) → StandsAt p.names p.firsts p.sizes p.next p.lives (after h).units head u → StandsAt ns fs sizes' nx ls new_units head u
+  stands_old : (head : ℕ) (u : List Name) → StandsAt p.objects (after h).units head u → StandsAt o' new_units head u
   stands_old head u t = let o = live_out head t.life in record {
     among = among_left (after h).units (unit ∷ []) u t.among;
     life = life_out head o ∙ t.life;
@@ -224,7 +236,7 @@ module _ {z : Sizes} {p : Parts} {h : List Entry} {l m : ℕ} {more : List Kind}
     subst (λ (j : ℕ). AreLinked ns nx j (names_from l (count + 1) (next_kind ∷ kinds))) (sym (next_in k (omega arith))) (linked_new (k + 1) (count + 1) (next_kind ∷ kinds) (omega arith) (omega arith)),
   )
 
-  stands_new : StandsAt ns fs sizes' nx ls new_units first unit
+  stands_new : StandsAt o' new_units first unit
   stands_new = record {
     among = among_right (after h).units (unit ∷ []) unit (inl refl);
     life = life_in 0 first new.some refl;
@@ -241,7 +253,7 @@ module _ {z : Sizes} {p : Parts} {h : List Entry} {l m : ℕ} {more : List Kind}
           let e = s.units.each i (old_life i n o a).life in
           absurd (not_first (first_at p.firsts i) (live_out (first_at p.firsts i) e.1.life) (sym (first_out i o) ∙ f))
 
-  units_new : UnitsShow z ns fs sizes' nx ls new_units
+  units_new : UnitsShow z o' new_units
   units_new = record {
     firsts_len = new.by_first.len ∙ s.units.firsts_len;
     sizes_len = length-set p.sizes first (length more) ∙ s.units.sizes_len;
@@ -267,120 +279,70 @@ module _ {z : Sizes} {p : Parts} {h : List Entry} {l m : ℕ} {more : List Kind}
       named i ne (inl w) = (record { lane = l; count = m + 1 + w.0 }, name_in w.0 i w.1 w.2)
       named i ne (inr o) = let r = s.units.named i (λ e. ne (life_out i o ∙ e)) in (r.0, name_out i o ∙ r.1)
 
-      each : (i : ℕ) → life_at ls i ≡ Live → Where at (length more) i → (u : List Name) × StandsAt ns fs sizes' nx ls new_units (first_at fs i) u
-      each i e (inl w) = (unit, subst (λ (x : ℕ). StandsAt ns fs sizes' nx ls new_units x unit) (sym (first_in w.0 i w.1 w.2)) stands_new)
-      each i e (inr o) = let r = s.units.each i (sym (life_out i o) ∙ e) in (r.0, subst (λ (x : ℕ). StandsAt ns fs sizes' nx ls new_units x r.0) (sym (first_out i o)) (stands_old (first_at p.firsts i) r.0 r.1))
+      each : (i : ℕ) → life_at ls i ≡ Live → Where at (length more) i → (u : List Name) × StandsAt o' new_units (first_at fs i) u
+      each i e (inl w) = (unit, subst (λ (x : ℕ). StandsAt o' new_units x unit) (sym (first_in w.0 i w.1 w.2)) stands_new)
+      each i e (inr o) = let r = s.units.each i (sym (life_out i o) ∙ e) in (r.0, subst (λ (x : ℕ). StandsAt o' new_units x r.0) (sym (first_out i o)) (stands_old (first_at p.firsts i) r.0 r.1))
 
-      all : (u : List Name) → Among (after h).units u ⊎ ((unit ≡ u) ⊎ ⊥) → (head : ℕ) × StandsAt ns fs sizes' nx ls new_units head u
+      all : (u : List Name) → Among (after h).units u ⊎ ((unit ≡ u) ⊎ ⊥) → (head : ℕ) × StandsAt o' new_units head u
       all u (inl a) = let r = s.units.all u a in (r.0, stands_old r.0 u r.1)
-      all u (inr (inl e)) = (first, subst (λ (x : List Name). StandsAt ns fs sizes' nx ls new_units first x) e stands_new)
+      all u (inr (inl e)) = (first, subst (λ (x : List Name). StandsAt o' new_units first x) e stands_new)
       all u (inr (inr e)) = absurd e
 
   -- a unit is an old one, or the new one
   abbrev EitherUnit : ℕ → List Name → Type 0
-  EitherUnit head u = StandsAt p.names p.firsts p.sizes p.next p.lives (after h).units head u ⊎ ((u ≡ unit) × (head ≡ first))
+  EitherUnit head u = StandsAt p.objects (after h).units head u ⊎ ((u ≡ unit) × (head ≡ first))
 
-  either_unit : (head : ℕ) (u : List Name) → StandsAt ns fs sizes' nx ls new_units head u → EitherUnit head u
+  either_unit : (head : ℕ) (u : List Name) → StandsAt o' new_units head u → EitherUnit head u
   either_unit head u t = go (among_append (after h).units (unit ∷ []) u t.among)
     where
       go : Among (after h).units u ⊎ ((unit ≡ u) ⊎ ⊥) → EitherUnit head u
       go (inl a) =
           let r = s.units.all u a in
           let same : r.0 ≡ head = one_head names_new units_new r.0 head u (stands_old r.0 u r.1) t in
-          inl (subst (λ (x : ℕ). StandsAt p.names p.firsts p.sizes p.next p.lives (after h).units x u) same r.1)
-      go (inr (inl e)) = inr (sym e, one_head names_new units_new head first u t (subst (λ (x : List Name). StandsAt ns fs sizes' nx ls new_units first x) e stands_new))
+          inl (subst (λ (x : ℕ). StandsAt p.objects (after h).units x u) same r.1)
+      go (inr (inl e)) = inr (sym e, one_head names_new units_new head first u t (subst (λ (x : List Name). StandsAt o' new_units first x) e stands_new))
       go (inr (inr e)) = absurd e
 
   all_members : members new_units ≡ members (after h).units ++ unit
   all_members = flat_map-append (λ (u : List Name). u) (after h).units (unit ∷ []) ∙ ap (λ (x : List Name). members (after h).units ++ x) (append-nil unit)
 
-  distinct_new : Distinct (members new_units)
-  distinct_new =
-      subst (λ (x : List Name). Distinct x) (sym all_members) (distinct_append (members (after h).units) unit s.distinct (distinct_row l (m + 1) more)
-      (λ n a b. let v = among_members (after h).units n a in let r = s.units.all v.0 v.1 in let j = r.1.inside n v.2 in old_name j.0 n j.1.name (among_has unit n b)))
+  free_new : FreeShows z ns ls p.free (set p.spare l (spare_at p.spare l - length more)) (occupied (with_unit (after h) l more (m + 1)))
+  free_new = free_popped s.free l (length more) new.frame.in_range new.room ns ls _ new.by_life name_out (λ k.
+      let live : count_by (λ n. n.lane == k) (members new_units) ≡ count_by (λ n. n.lane == k) (members (after h).units) + count_by (λ n. n.lane == k) unit = ap (λ (x : List Name). count_by (λ n. n.lane == k) x) all_members ∙ sum_by-append _ (members (after h).units) unit in
+      omega (arith, count_row l (m + 1) k more))
 
-  free_new : FreeShows z ns ls p.free (set p.spare l (spare_at p.spare l - length more)) new_units (after h).removals
-  free_new = free_popped s.free l (length more) new.lane new.room ns ls new_units new.by_life name_out (λ k.
-      ap (λ (x : List Name). count_by (λ n. n.lane == k) x) all_members ∙ sum_by-append _ (members (after h).units) unit
-      ∙ ap (λ (c : ℕ). count_by (λ n. n.lane == k) (members (after h).units) + c) (count_row l (m + 1) k more))
-
-  -- ---- roots, and what frames hold
+  -- ---- roots
 
   not_rooted : (k : ℕ) → k < length more → (after h).rooted (record { lane = l; count = m + 1 + k }) ≡ false
   not_rooted k below = go ((after h).rooted (record { lane = l; count = m + 1 + k })) refl
     where
       go : (b : Bool) → (after h).rooted (record { lane = l; count = m + 1 + k }) ≡ b → b ≡ false
-      go true e = let j = s.roots.living _ e in absurd (old_name j.0 _ j.1.name (has_in_row l (m + 1) more k below))
+      go true e = let j = lives_at s.units _ (known.named.rooted _ e) in absurd (old_name j.0 _ j.1.name (has_in_row l (m + 1) more k below))
       go false e = refl
 
   same_root : (i : ℕ) → Where at (length more) i → rooted_at (after h).rooted (name_at ns i) ≡ rooted_at (after h).rooted (name_at p.names i)
   same_root i (inl w) = ap (rooted_at (after h).rooted) (name_in w.0 i w.1 w.2) ∙ not_rooted w.0 w.1 ∙ sym (ap (rooted_at (after h).rooted) (ap (name_at p.names) w.2 ∙ no_name w.0 w.1))
   same_root i (inr o) = ap (rooted_at (after h).rooted) (name_out i o)
 
-  roots_new : RootsShow z ns ls p.roots (after h).rooted (after h).strong
+  roots_new : RootsShow z ns p.roots (after h).rooted (after h).strong
   roots_new = record {
     bits = Lists-same p.roots (item_count z) (λ i. rooted_at (after h).rooted (name_at p.names i)) _ s.roots.bits (λ i. same_root i (where_is at (length more) i));
-    living = λ n e. let j = s.roots.living n e in (j.0, same_life j.0 n j.1);
     no_strong = s.roots.no_strong;
   }
 
-  new_member : (n : Name) → has unit n ≡ true → (i : ℕ) × LivesAt ns ls i n
-  new_member n e = let j = stands_new.inside n e in (j.0, j.1)
-
   may_make : MayBy z (state_of h) (Lane l) (act.Make more (m + 1))
   may_make = record {
-    in_range = new.lane;
-    frame = record { opened = new.opened; continues = rw (s.held.paid l) tt; parts = rw (s.held.whole l) tt };
+    in_range = new.frame.in_range;
+    frame = in_open new.was.rest.between new.frame.opened;
     may = record {
       some = new.some;
       few = new.few;
       lawful = new.lawful;
       next = ap (λ k. k + 1) new.is;
       names = omega arith;
-      room = omega (arith, s.free.count l new.lane);
+      room = omega (arith, s.free.count l new.frame.in_range);
     };
   }
-
-  apart_new : AreApart new_kinds new_units
-  apart_new = next_apart z (state_of h) (Lane l) (act.Make more (m + 1)) may_make (units_apart z h new.was.legal)
-
-  abbrev new_world : World
-  new_world = next_world (state_of h).marks (after h) (Lane l) (act.Make more (m + 1))
-
-  unit_of_new : (n : Name) → Among unit n → unit_of new_world n ≡ unit
-  unit_of_new n a = unit_of_is new_kinds new_units unit n apart_new (among_right (after h).units (unit ∷ []) unit (inl refl)) (among_has unit n a)
-
-  abbrev gives : List Name
-  gives = flat_map (unit_of new_world) unit ++ ((state_of h).frames l).held
-
-  abbrev new_frame : Frame
-  new_frame = record ((state_of h).frames l) { held = gives; owed = None; broken = []; loosened = [] }
-
-  held_new : HeldShow ns ls (after h).opened (set_at (state_of h).frames l new_frame)
-  held_new = record {
-    living = λ k n. at_set (λ (f : Frame). has f.held n ≡ true → (i : ℕ) × LivesAt ns ls i n) (state_of h).frames l k new_frame (λ e. own n) (λ ne e. let j = s.held.living k n e in (j.0, same_life j.0 n j.1));
-    closed = λ k e. at_set (λ (f : Frame). f.held ≡ []) (state_of h).frames l k new_frame
-        (λ here. absurd (let wrong : list_any (same_pass (Lane l)) (after h).opened ≡ false = subst (λ (x : ℕ). list_any (same_pass (Lane x)) (after h).opened ≡ false) here e in cc)) (λ ne. s.held.closed k e);
-    paid = λ k. at_set (λ (f : Frame). f.owed ≡ None) (state_of h).frames l k new_frame (λ e. refl) (λ ne. s.held.paid k);
-    whole = λ k. at_set (λ (f : Frame). f.broken ≡ []) (state_of h).frames l k new_frame (λ e. refl) (λ ne. s.held.whole k);
-  }
-    where
-      own : (n : Name) → has gives n ≡ true → (i : ℕ) × LivesAt ns ls i n
-      own n e = go (or_true _ _ (sym (list_any-append (same_name n) (flat_map (unit_of new_world) unit) ((state_of h).frames l).held) ∙ e))
-        where
-          go : (has (flat_map (unit_of new_world) unit) n ≡ true) ⊎ (has ((state_of h).frames l).held n ≡ true) → (i : ℕ) × LivesAt ns ls i n
-          go (inl g) = new_member n (given_members (unit_of new_world) unit unit unit_of_new n g)
-          go (inr g) = let j = s.held.living l n g in (j.0, same_life j.0 n j.1)
-
-  -- the frame holds the new members
-  pub gives_new : (n : Name) → has unit n ≡ true → has gives n ≡ true
-  gives_new n e =
-      list_any-append (same_name n) (flat_map (unit_of new_world) unit) ((state_of h).frames l).held
-      ∙ ap (λ b. b || has ((state_of h).frames l).held n) (members_given (unit_of new_world) unit unit unit_of_new n (has_among unit n e) n e)
-
-  -- and what it held
-  pub gives_old : (n : Name) → has ((state_of h).frames l).held n ≡ true → has gives n ≡ true
-  gives_old n e = list_any-append (same_name n) (flat_map (unit_of new_world) unit) ((state_of h).frames l).held ∙ or_right (has (flat_map (unit_of new_world) unit) n) _ e
 
   -- ---- marks
 
@@ -395,8 +357,13 @@ module _ {z : Sizes} {p : Parts} {h : List Entry} {l m : ℕ} {more : List Kind}
   first_marked : get_or marked' first false ≡ true
   first_marked = get_or-set_same p.marked first true false (omega (arith, within, s.work.marked_len))
 
-  none_kept : (kept : List Name) → ((n : Name) → has kept n ≡ true → (i : ℕ) × (name_at p.names i ≡ Some n)) → list_any (has kept) unit ≡ true → ⊥
-  none_kept kept known e = let f = test_among (has kept) unit e in let j = known f.0 f.2 in old_name j.0 f.0 j.1 (among_has unit f.0 f.1)
+  none_kept : list_any (has (state_of h).marks.kept) unit ≡ true → ⊥
+  none_kept e =
+      let f = test_among (has (state_of h).marks.kept) unit e in
+      let was_made = known.noted.kept_made f.0 f.2 in
+      let range = names_from_range l (m + 1) more f.0 (among_has unit f.0 f.1) in
+      let lens : length ((after h).kinds f.0.lane) ≡ length ((after h).kinds l) = ap (λ (x : ℕ). length ((after h).kinds x)) range.0 in
+      omega (arith, was_made.1, range.1, new.is)
 
   unit_fresh : (kept fresh_now : List Name) → list_any (λ n. has kept n || has (unit ++ fresh_now) n) unit ≡ true
   unit_fresh kept fresh_now =
@@ -404,43 +371,32 @@ module _ {z : Sizes} {p : Parts} {h : List Entry} {l m : ℕ} {more : List Kind}
       let e = has_in_row l (m + 1) more 0 (omega arith) in
       among_test (λ n. has kept n || has (unit ++ fresh_now) n) unit n (has_among unit n e) (or_right (has kept n) _ (list_any-append (same_name n) unit fresh_now ∙ ap (λ b. b || has fresh_now n) e))
 
-  old_fresh : (kept fresh_now u : List Name) (head : ℕ) → StandsAt p.names p.firsts p.sizes p.next p.lives (after h).units head u → list_any (λ n. has kept n || has fresh_now n) u ≡ list_any (λ n. has kept n || has (unit ++ fresh_now) n) u
+  old_fresh : (kept fresh_now u : List Name) (head : ℕ) → StandsAt p.objects (after h).units head u → list_any (λ n. has kept n || has fresh_now n) u ≡ list_any (λ n. has kept n || has (unit ++ fresh_now) n) u
   old_fresh kept fresh_now u head t = any_same _ _ u (λ n a. let j = t.inside n (among_has u n a) in
       ap (λ b. has kept n || b) (sym (list_any-append (same_name n) unit fresh_now ∙ ap (λ b. b || has fresh_now n) (old_other j.0 n j.1.name))))
 
-  marks_new : (kept fresh_now scanned_now : List Name) → MarksShow p.names p.firsts p.sizes p.next p.lives (after h).units p.marked (pushed_of p.work p.pushed) (grey_of p.work p.scanned p.pushed) kept fresh_now scanned_now
-      → MarksShow ns fs sizes' nx ls new_units marked' (pushed_of p.work p.pushed) (grey_of p.work p.scanned p.pushed) kept (unit ++ fresh_now) scanned_now
-  marks_new kept fresh_now scanned_now k = record {
+  abbrev marks : Marks
+  marks = (state_of h).marks
+
+  marks_new : p.phase ≡ Marking → MarksShow o' new_units marked' (pushed_of p.work p.pushed) (grey_of p.work p.scanned p.pushed) marks.kept (unit ++ marks.fresh) marks.scanned
+  marks_new marking = record {
     bits = λ head u t. bits head u (either_unit head u t);
     listed_marked = λ head a. still_marked head (k.listed_marked head a);
     distinct = k.distinct;
     grey_units = λ head a. let r = k.grey_units head a in (r.0, stands_old head r.0 r.1, r.2);
     all_grey = λ head u t. all_grey head u (either_unit head u t);
-    black_marked = λ head u t. black head u (either_unit head u t);
-    known = λ n e. let j = k.known n e in (j.0, name_out j.0 (named_out j.0 n j.1) ∙ j.1);
   }
     where
-      bits : (head : ℕ) (u : List Name) → EitherUnit head u → get_or marked' head false ≡ list_any (λ n. has kept n || has (unit ++ fresh_now) n) u
-      bits head u (inl t) = get_or-set_other p.marked first head true false (not_first head (live_out head t.life)) ∙ k.bits head u t ∙ old_fresh kept fresh_now u head t
-      bits head u (inr (same, here)) = ap (λ (j : ℕ). get_or marked' j false) here ∙ first_marked ∙ sym (ap (λ (x : List Name). list_any (λ n. has kept n || has (unit ++ fresh_now) n) x) same ∙ unit_fresh kept fresh_now)
+      k : MarksShow p.objects (after h).units p.marked (pushed_of p.work p.pushed) (grey_of p.work p.scanned p.pushed) marks.kept marks.fresh marks.scanned
+      k = s.marks marking
 
-      all_grey : (head : ℕ) (u : List Name) → EitherUnit head u → (list_any (has kept) u && not (list_any (has scanned_now) u)) ≡ true → Among (grey_of p.work p.scanned p.pushed) head
+      bits : (head : ℕ) (u : List Name) → EitherUnit head u → get_or marked' head false ≡ list_any (λ n. has marks.kept n || has (unit ++ marks.fresh) n) u
+      bits head u (inl t) = get_or-set_other p.marked first head true false (not_first head (live_out head t.life)) ∙ k.bits head u t ∙ old_fresh marks.kept marks.fresh u head t
+      bits head u (inr (same, here)) = ap (λ (j : ℕ). get_or marked' j false) here ∙ first_marked ∙ sym (ap (λ (x : List Name). list_any (λ n. has marks.kept n || has (unit ++ marks.fresh) n) x) same ∙ unit_fresh marks.kept marks.fresh)
+
+      all_grey : (head : ℕ) (u : List Name) → EitherUnit head u → (list_any (has marks.kept) u && not (list_any (has marks.scanned) u)) ≡ true → Among (grey_of p.work p.scanned p.pushed) head
       all_grey head u (inl t) e = k.all_grey head u t e
-      all_grey head u (inr (same, here)) e = absurd (none_kept kept k.known (ap (λ (x : List Name). list_any (has kept) x) (sym same) ∙ (and_true _ _ e).0))
-
-      black : (head : ℕ) (u : List Name) → EitherUnit head u → list_any (has scanned_now) u ≡ true → get_or marked' head false ≡ true
-      black head u (inl t) e = still_marked head (k.black_marked head u t e)
-      black head u (inr (same, here)) e = ap (λ (j : ℕ). get_or marked' j false) here ∙ first_marked
-
-  roots_marked_new : RootsMarked p.firsts p.roots p.marked → RootsMarked fs p.roots marked'
-  roots_marked_new k i e = go (where_is at (length more) i)
-    where
-      rooted_now : rooted_at (after h).rooted (name_at p.names i) ≡ true
-      rooted_now = sym (s.roots.bits.each i false (omega (arith, bit_below p.roots i e, s.roots.bits.len))) ∙ e
-
-      go : Where at (length more) i → get_or marked' (first_at fs i) false ≡ true
-      go (inl w) = absurd (let none : rooted_at (after h).rooted (name_at p.names i) ≡ false = ap (rooted_at (after h).rooted) (ap (name_at p.names) w.2 ∙ no_name w.0 w.1) in let some_root = rooted_now in cc)
-      go (inr o) = ap (λ (j : ℕ). get_or marked' j false) (first_out i o) ∙ still_marked (first_at p.firsts i) (k i e)
+      all_grey head u (inr (same, here)) e = absurd (none_kept (ap (λ (x : List Name). list_any (has marks.kept) x) (sym same) ∙ (and_true _ _ e).0))
 
   -- ---- removed objects
 
@@ -454,7 +410,7 @@ module _ {z : Sizes} {p : Parts} {h : List Entry} {l m : ℕ} {more : List Kind}
 
   was_gone : (i : ℕ) → is_gone (life_at p.lives i) ≡ true → out_of i
   was_gone i e = λ k below same.
-      let free : life_at p.lives (at k) ≡ Free = popped_free s.free l (length more) new.lane new.room k below in
+      let free : life_at p.lives (at k) ≡ Free = popped_free s.free l (length more) new.frame.in_range new.room k below in
       absurd (let none : is_gone (life_at p.lives i) ≡ false = ap is_gone (ap (life_at p.lives) (sym same) ∙ free) in cc)
 
   still_gone : (i : ℕ) → is_gone (life_at p.lives i) ≡ true → is_gone (life_at ls i) ≡ true
@@ -471,32 +427,29 @@ module _ {z : Sizes} {p : Parts} {h : List Entry} {l m : ℕ} {more : List Kind}
     where
       go : Where at (length more) i → removed_name (life_at ls i) (name_at ns i) ≡ removed_name (life_at p.lives i) (name_at p.names i)
       go (inl w) =
-          let free : life_at p.lives i ≡ Free = ap (life_at p.lives) w.2 ∙ popped_free s.free l (length more) new.lane new.room w.0 w.1 in
+          let free : life_at p.lives i ≡ Free = ap (life_at p.lives) w.2 ∙ popped_free s.free l (length more) new.frame.in_range new.room w.0 w.1 in
           rw (life_in w.0 i w.1 w.2, free) refl
       go (inr o) = rw (life_out i o, name_out i o) refl
 
-  removed_new : (phase : Phase) (removals : List Removal) (found : List Name) (swept : ℕ) → RemovedShow z p.names p.lives p.polls p.left p.swept phase removals found swept → RemovedShow z ns ls p.polls p.left p.swept phase removals found swept
-  removed_new phase removals found swept k = record {
-    swept_is = k.swept_is;
-    swept_few = k.swept_few;
-    polls_len = k.polls_len;
+  removed_new : RemovedShow z ns ls p.polls p.left p.swept p.phase (after h).removals (after h).found (after h).swept
+  removed_new = record {
+    swept_is = s.removed.swept_is;
+    swept_few = s.removed.swept_few;
+    polls_len = s.removed.polls_len;
     removed = λ i n there e.
         let o = gone_out i e in
-        subst (λ (life : Life). Among removals (record { name = n; stage = stage_of life; polls = get_or p.polls i 0 })) (sym (life_out i o))
-        (k.removed i n (sym (name_out i o) ∙ there) (before_gone i e));
-    gone = λ r a. let j = k.gone r a in (j.0, keeps_name j.0 r.name j.1, still_gone j.0 j.2);
-    distinct = k.distinct;
-    fresh = k.fresh;
-    found_is = λ e. k.found_is e ∙ sym (removed_same_names p.names ns p.lives ls found_same 0 p.swept);
-    left_is = k.left_is;
-    left_few = k.left_few;
-    none_left = k.none_left;
+        subst (λ (life : Life). Among (after h).removals (record { name = n; stage = stage_of life; polls = get_or p.polls i 0 })) (sym (life_out i o))
+        (s.removed.removed i n (sym (name_out i o) ∙ there) (before_gone i e));
+    gone = λ r a. let j = s.removed.gone r a in (j.0, keeps_name j.0 r.name j.1, still_gone j.0 j.2);
+    found_is = λ e. s.removed.found_is e ∙ sym (removed_same_names p.names ns p.lives ls found_same 0 p.swept);
+    left_is = s.removed.left_is;
+    left_few = s.removed.left_few;
   }
 
   -- ---- removed units
 
-  lies_old : (head : ℕ) (u : List Name) → LiesAt p.names p.firsts p.sizes p.next p.waiting p.lives (after h).removals (after h).last_removed head u
-      → LiesAt ns fs sizes' nx p.waiting ls (after h).removals (after h).last_removed head u
+  lies_old : (head : ℕ) (u : List Name) → LiesAt p.objects p.waiting (after h).removals (after h).last_removed head u
+      → LiesAt o' p.waiting (after h).removals (after h).last_removed head u
   lies_old head u t = let o = was_gone head t.life in record {
     among = t.among;
     life = still_gone head t.life;
@@ -510,12 +463,11 @@ module _ {z : Sizes} {p : Parts} {h : List Entry} {l m : ℕ} {more : List Kind}
     waits = t.waits;
   }
 
-  gone_new : GoneShow z ns fs sizes' nx p.waiting ls (after h).removals (after h).last_removed
+  gone_new : GoneShow z o' p.waiting (after h).removals (after h).last_removed
   gone_new = record {
     waiting_len = s.gone.waiting_len;
-    distinct = s.gone.distinct;
     each = λ i e. let r = s.gone.each i (before_gone i e) in
-        (r.0, subst (λ (x : ℕ). LiesAt ns fs sizes' nx p.waiting ls (after h).removals (after h).last_removed x r.0) (sym (first_out i (gone_out i e))) (lies_old (first_at p.firsts i) r.0 r.1));
+        (r.0, subst (λ (x : ℕ). LiesAt o' p.waiting (after h).removals (after h).last_removed x r.0) (sym (first_out i (gone_out i e))) (lies_old (first_at p.firsts i) r.0 r.1));
     all = λ u n a e still. let r = s.gone.all u n a e still in (r.0, lies_old r.0 u r.1);
   }
 
@@ -551,10 +503,14 @@ module _ {z : Sizes} {p : Parts} {h : List Entry} {l m : ℕ} {more : List Kind}
 
   -- no cell of a new object was written
   no_cell : (k i : ℕ) (n : Name) (slot : ℕ) → k < length more → i ≡ at k → name_at ns i ≡ Some n → ((after h).cell n slot ≡ None) × ((after h).plain n slot ≡ 0)
-  no_cell k i n slot below here e =
-      let name = name_is k i n below here e in
-      let more_made : length ((after h).kinds n.lane) < n.count = subst (λ (x : Name). length ((after h).kinds x.lane) < x.count) (sym name) (omega (arith, new.is)) in
-      (s.cells.unmade n slot more_made, s.cells.unmade_plain n slot more_made)
+  no_cell k i n slot below here e = (go ((after h).cell n slot) refl, s.cells.unmade_plain n slot more_made)
+    where
+      more_made : length ((after h).kinds n.lane) < n.count
+      more_made = subst (λ (x : Name). length ((after h).kinds x.lane) < x.count) (sym (name_is k i n below here e)) (omega (arith, new.is))
+
+      go : (c : Option Name) → (after h).cell n slot ≡ c → c ≡ None
+      go None at_cell = refl
+      go (Some x) at_cell = absurd (let was_made = known.named.blank n slot x at_cell in omega (arith, was_made.1, more_made))
 
   target_in : (k i slot : ℕ) → k < length more → i ≡ at k → slot < z.slots → target_at z.slots ts i slot ≡ None
   target_in k i slot below here low = ap (λ (x : ℕ). target_at z.slots ts x slot) here ∙ new.by_target.inside k slot None below low
@@ -570,7 +526,6 @@ module _ {z : Sizes} {p : Parts} {h : List Entry} {l m : ℕ} {more : List Kind}
     aims = λ i n slot there low. aims i n slot there low (where_is at (length more) i);
     no_more = λ i n slot there over. no_more i n slot there over (where_is at (length more) i);
     numbers = λ i n slot there low. numbers i n slot there low (where_is at (length more) i);
-    unmade = λ n slot over. s.cells.unmade n slot (omega (arith, grown n.lane));
     unmade_plain = λ n slot over. s.cells.unmade_plain n slot (omega (arith, grown n.lane));
   }
     where
@@ -593,23 +548,6 @@ module _ {z : Sizes} {p : Parts} {h : List Entry} {l m : ℕ} {more : List Kind}
       numbers : (i : ℕ) (n : Name) (slot : ℕ) → LivesAt ns ls i n → slot < z.slots → Where at (length more) i → plain_at z.slots ps i slot ≡ (after h).plain n slot
       numbers i n slot there low (inl w) = ap (λ (x : ℕ). plain_at z.slots ps x slot) w.2 ∙ new.by_plain.inside w.0 slot 0 w.1 low ∙ sym (no_cell w.0 i n slot w.1 w.2 there.name).1
       numbers i n slot there low (inr o) = new.by_plain.outside i slot 0 low o ∙ s.cells.numbers i n slot (old_life i n o there) low
-
-  black_new : (grey : List ℕ) → TargetsMarked z.slots p.firsts p.targets p.lives p.marked grey → TargetsMarked z.slots fs ts ls marked' grey
-  black_new grey k = record { each = λ i slot t live low e b g. each i slot t live low e b g (where_is at (length more) i) }
-    where
-      each : (i slot t : ℕ) → life_at ls i ≡ Live → slot < z.slots → target_at z.slots ts i slot ≡ Some t → get_or marked' (first_at fs i) false ≡ true → (Among grey (first_at fs i) → ⊥) → Where at (length more) i → get_or marked' (first_at fs t) false ≡ true
-      each i slot t live low e b g (inl w) = absurd (let none = target_in w.0 i slot w.1 w.2 low in cc)
-      each i slot t live low e b g (inr o) =
-          let was : life_at p.lives i ≡ Live = sym (life_out i o) ∙ live in
-          let named = s.units.named i (live_used p.lives i was) in
-          let head : first_at fs i ≡ first_at p.firsts i = first_out i o in
-          let unit = s.units.each i was in
-          let other : first_at p.firsts i ≢ first = not_first (first_at p.firsts i) (live_out (first_at p.firsts i) unit.1.life) in
-          let aim = sym (target_out i slot o low) ∙ e in
-          let there = aims_target (target_at z.slots p.targets i slot) ((after h).cell named.0 slot) t (s.cells.aims i named.0 slot (record { name = named.1; life = was }) low) aim in
-          let before : get_or p.marked (first_at p.firsts i) false ≡ true = sym (get_or-set_other p.marked first (first_at p.firsts i) true false other) ∙ ap (λ (x : ℕ). get_or marked' x false) (sym head) ∙ b in
-          ap (λ (x : ℕ). get_or marked' x false) (first_out t (named_out t there.0 there.2.name))
-          ∙ still_marked (first_at p.firsts t) (k.each i slot t was low aim before (λ a. g (subst (λ (x : ℕ). Among grey x) (sym head) a)))
 
   -- ---- garbage
 
@@ -634,43 +572,25 @@ module _ {z : Sizes} {p : Parts} {h : List Entry} {l m : ℕ} {more : List Kind}
 
   -- ---- all of it
 
-  pub creates : IsPlain z (record p { names = ns; firsts = fs; sizes = sizes'; next = nx; kinds = ks; targets = ts; plains = ps; lives = ls; garbage = gs; marked = marked'; spare = set p.spare l (spare_at p.spare l - length more); made = set p.made l (m + length more) }) (h ++ record { pass = Lane l; act = act.Make more (m + 1) } ∷ [])
-  creates = plain_more z p _ h (record { pass = Lane l; act = act.Make more (m + 1) } ∷ []) new.was (may_make, tt) record {
-    phase = s.phase;
-    frames = s.frames;
-    names = names_new;
-    units = units_new;
-    distinct = distinct_new;
-    roots = roots_new;
-    held = held_new;
-    work = work_new;
-    idle = s.idle;
-    marks = λ e. marks_new _ _ _ (s.marks e);
-    roots_marked = λ e. roots_marked_new (s.roots_marked e);
-    kinds = kinds_new;
-    cells = cells_new;
-    black = λ e. black_new _ (s.black e);
-    removed = removed_new _ _ _ _ s.removed;
-    gone = gone_new;
-    order = s.order;
-    gathers = λ e. gather_more keeps_name (s.gathers e);
-    queue = λ e. queue_more keeps_name (s.queue e);
-    free = free_new;
-    none_agreed = s.none_agreed;
-    none_asked = s.none_asked;
-    no_steps = s.no_steps;
-    garbage = garbage_new;
-  }
-
   abbrev made_entry : Entry
   made_entry = record { pass = Lane l; act = act.Make more (m + 1) }
+
+  pub creates : Done z (record { gate = p.gate; objects = o'; rows = record { kinds = ks; targets = ts; plains = ps }; roots = p.roots; garbage = gs; colours = record (p.colours) { marked = marked' }; stock = record { free = p.free; spare = set p.spare l (spare_at p.spare l - length more); made = set p.made l (m + length more) }; ends = p.ends }) h (h ++ made_entry ∷ []) (Lane l) (act.Make more (m + 1))
+  creates = does (Lane l) (act.Make more (m + 1)) (act.Make more (m + 1) ∷ []) new.was (refl, tt) (may_make, tt) record {
+    gate = s.gate;
+    objects = record { names = names_new; units = units_new };
+    rows = record { kinds = kinds_new; cells = cells_new };
+    roots = roots_new;
+    garbage = garbage_new;
+    colours = record { work = work_new; idle = s.idle; marks = marks_new };
+    stock = record { made = made_new; free = free_new };
+    ends = record { removed = removed_new; gone = gone_new; order = s.order; gathers = λ e. gather_more keeps_name (s.gathers e); queue = λ e. queue_more keeps_name (s.queue e); none_asked = s.none_asked };
+  }
 
   -- what was held is held
   pub still_held : (k : ℕ) (r : Ref) → Holds record { history = h; names = p.names } k r → Holds record { history = h ++ made_entry ∷ []; names = ns } k r
   still_held k r held = record {
-    given = subst (λ (t : State). has (t.frames k).held r.name ≡ true) (sym (state_more h (made_entry ∷ [])))
-        (at_set (λ (f : Frame). has f.held r.name ≡ true) (state_of h).frames l k new_frame
-        (λ e. gives_old r.name (subst (λ (x : ℕ). has ((state_of h).frames x).held r.name ≡ true) e held.given)) (λ ne. held.given));
+    given = holds_call creates.entries refl k r.name held.given;
     placed = name_out r.index (named_out r.index r.name held.placed) ∙ held.placed;
     alone = λ j there. alone j there (where_is at (length more) j);
   }
@@ -685,8 +605,7 @@ module _ {z : Sizes} {p : Parts} {h : List Entry} {l m : ℕ} {more : List Kind}
       let n : Name = record { lane = l; count = m + 1 + k } in
       let placed : name_at ns (at k) ≡ Some n = name_in k (at k) below refl in
       record {
-        given = subst (λ (t : State). has (t.frames l).held n ≡ true) (sym (state_more h (made_entry ∷ [])))
-            (subst (λ (f : Frame). has f.held n ≡ true) (sym (set_at_same (state_of h).frames l new_frame)) (gives_new n (has_in_row l (m + 1) more k below)));
+        given = (given_is_held_holds z h l (act.Make more (m + 1)) creates.plain.legal n (has_in_row l (m + 1) more k below)).0;
         placed = placed;
         alone = λ j e. names_new.alone j (at k) n e placed;
       }

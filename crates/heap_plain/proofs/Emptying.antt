@@ -6,21 +6,23 @@ use Rattle.std.proofs.Math.Decide.{ℕ_discrete}
 use Rattle.std.proofs.lemmas.List.{length-set, get_or-set_same, get_or-set_other}
 use Rattle.world_model.specs.Sizes.{Sizes, item_count}
 use Rattle.world_model.specs.NameLists.{same_name, has}
-use Rattle.world_model.specs.World.{Removal}
 use Rattle.world_model.proofs.ListFacts.{Among, or_false, or_right}
 use Rattle.world_model.proofs.NameFacts.{same_name_refl}
+use Rattle.world_model.proofs.Counts.{count-cons}
 use Rattle.heap_plain.specs.Types.{Name}
 use Rattle.heap_plain.specs.declared.life.Life.TheVariants.{Free}
 use Rattle.heap_plain.specs.Parts.{name_at, life_at, next_at, is_gone}
 use Rattle.heap_plain.specs.Listing.{chained}
 use Rattle.heap_plain.specs.Purging.{Stocks, lane_at, give, give_all, CanGive}
 use Rattle.world_model.specs.Engines.{IsOfLane}
-use Rattle.heap_plain.specs.Sections.{Distinct, AreLinked, FreeShows, spare_at, removal_of}
+use Rattle.heap_plain.specs.Lists.{Distinct}
+use Rattle.heap_plain.specs.Units.{AreLinked}
+use Rattle.heap_plain.specs.Stocking.{FreeShows, spare_at}
 use Rattle.heap_plain.proofs.WorldFacts.{differs}
-use Rattle.heap_plain.proofs.SliceSteps.{count_cons}
 use Rattle.heap_plain.proofs.Popping.{lane_below, lane_end}
 use Rattle.heap_plain.proofs.Pushing.{free_pushed, few, inside}
 use Rattle.heap_plain.proofs.Listings.{chained_next}
+use Rattle.heap_plain.proofs.Restaging.{lives_same, free_lives}
 
 give_next : (quota : ℕ) (s : Stocks) (links : List ℕ) (i count : ℕ) → give_all quota s links i (suc count) ≡ give_all quota (give quota s i) links (next_at links i) count
 give_next quota s links i zero = refl
@@ -36,8 +38,8 @@ give_by quota s i l = record {
 }
 
 -- Before a unit's members from one on are taken off. The removals are theirs and others.
-pub record Emptying (z : Sizes) (s : Stocks) (links : List ℕ) (i : ℕ) (v : List Name) (units : List (List Name)) (rest : List Removal) : Type 0 where
-  pub free : FreeShows z s.names s.lives s.free s.spare units (map removal_of v ++ rest)
+pub record Emptying (z : Sizes) (s : Stocks) (links : List ℕ) (i : ℕ) (v : List Name) (used : ℕ → ℕ) : Type 0 where
+  pub free : FreeShows z s.names s.lives s.free s.spare (λ lane. used lane + count_by (λ n. n.lane == lane) v)
   pub by_name : length s.names ≡ item_count z
   pub by_life : length s.lives ≡ item_count z
   pub linked : AreLinked s.names links i v
@@ -47,17 +49,17 @@ pub record Emptying (z : Sizes) (s : Stocks) (links : List ℕ) (i : ℕ) (v : L
   pub gone : (j : ℕ) (n : Name) → name_at s.names j ≡ Some n → has v n ≡ true → is_gone (life_at s.lives j) ≡ true
 
 -- After that.
-pub record Emptied (z : Sizes) (s t : Stocks) (v : List Name) (units : List (List Name)) (rest : List Removal) : Type 0 where
-  pub free : FreeShows z t.names t.lives t.free t.spare units rest
+pub record Emptied (z : Sizes) (s t : Stocks) (v : List Name) (used : ℕ → ℕ) : Type 0 where
+  pub free : FreeShows z t.names t.lives t.free t.spare used
   pub by_name : length t.names ≡ item_count z
   pub by_life : length t.lives ≡ item_count z
   pub out : (j : ℕ) (n : Name) → name_at s.names j ≡ Some n → has v n ≡ true → (name_at t.names j ≡ None) × (life_at t.lives j ≡ Free)
   pub others : (j : ℕ) → ((n : Name) → name_at s.names j ≡ Some n → has v n ≡ false) → (name_at t.names j ≡ name_at s.names j) × (life_at t.lives j ≡ life_at s.lives j)
 
 -- each of them can be given back, and what is left
-pub record Empties (z : Sizes) (s : Stocks) (links : List ℕ) (i : ℕ) (v : List Name) (units : List (List Name)) (rest : List Removal) : Type 0 where
+pub record Empties (z : Sizes) (s : Stocks) (links : List ℕ) (i : ℕ) (v : List Name) (used : ℕ → ℕ) : Type 0 where
   pub can : (k : ℕ) → k < length v → CanGive z.quota (give_all z.quota s links i k) (chained links i k)
-  pub end : Emptied z s (give_all z.quota s links i (length v)) v units rest
+  pub end : Emptied z s (give_all z.quota s links i (length v)) v used
 
 links_less : (names ns : List (Option Name)) (links : List ℕ) (n : Name) (u : List Name) → (Among u n → ⊥) → ((j : ℕ) (m : Name) → (n ≡ m → ⊥) → name_at names j ≡ Some m → name_at ns j ≡ Some m)
     → (i : ℕ) → AreLinked names links i u → AreLinked ns links i u
@@ -65,7 +67,7 @@ links_less names ns links n [] out keep i h = tt
 links_less names ns links n (m ∷ u) out keep i h =
     (keep i m (λ e. out (inl (sym e))) h.0, links_less names ns links n u (λ a. out (inr a)) keep (next_at links i) h.1)
 
-module _ (z : Sizes) (s : Stocks) (links : List ℕ) (i : ℕ) (n : Name) (v : List Name) (units : List (List Name)) (rest : List Removal) (few_items : item_count z < 2 ^ 32) (e : Emptying z s links i (n ∷ v) units rest) where
+module _ (z : Sizes) (s : Stocks) (links : List ℕ) (i : ℕ) (n : Name) (v : List Name) (used : ℕ → ℕ) (few_items : item_count z < 2 ^ 32) (e : Emptying z s links i (n ∷ v) used) where
   at : name_at s.names i ≡ Some n
   at = e.linked.0
 
@@ -78,8 +80,8 @@ module _ (z : Sizes) (s : Stocks) (links : List ℕ) (i : ℕ) (n : Name) (v : L
   gone : is_gone (life_at s.lives i) ≡ true
   gone = e.gone i n at (rw (same_name_refl n) refl)
 
-  counts : (lane : ℕ) → count_by (λ r. r.name.lane == lane) (map removal_of (n ∷ v) ++ rest) ≡ count_by (λ r. r.name.lane == lane) (map removal_of v ++ rest) + cond (n.lane == lane) 1 0
-  counts lane = let c = count_cons (λ (r : Removal). cond {A = ℕ} (r.name.lane == lane) 1 0) (removal_of n) (map removal_of v ++ rest) in omega arith
+  counts : (lane : ℕ) → used lane + count_by (λ m. m.lane == lane) (n ∷ v) ≡ used lane + count_by (λ m. m.lane == lane) v + cond (n.lane == lane) 1 0
+  counts lane = let c = count-cons (λ m. m.lane == lane) n v in omega arith
 
   next_is : give_by z.quota s i n.lane ≡ give z.quota s i
   next_is = ap (give_by z.quota s i) (sym lane_is)
@@ -105,9 +107,9 @@ module _ (z : Sizes) (s : Stocks) (links : List ℕ) (i : ℕ) (n : Name) (v : L
   still : (j : ℕ) (m : Name) → (n ≡ m → ⊥) → name_at s.names j ≡ Some m → name_at (set s.names i None) j ≡ Some m
   still j m ne h = other_name j (λ same. let u : name_at s.names j ≡ name_at s.names i = ap (name_at s.names) same in let w = at in ne cc) ∙ h
 
-  emptying_next : Emptying z (give_by z.quota s i n.lane) links (next_at links i) v units rest
+  emptying_next : Emptying z (give_by z.quota s i n.lane) links (next_at links i) v used
   emptying_next = record {
-    free = free_pushed e.free n.lane i place.0 place.1 e.by_name e.by_life gone (map removal_of v ++ rest) counts;
+    free = free_pushed e.free n.lane i place.0 place.1 e.by_name e.by_life gone _ counts;
     by_name = length-set s.names i None ∙ e.by_name;
     by_life = length-set s.lives i Free ∙ e.by_life;
     linked = links_less s.names (set s.names i None) links n v e.distinct.0 still (next_at links i) e.linked.1;
@@ -119,8 +121,8 @@ module _ (z : Sizes) (s : Stocks) (links : List ℕ) (i : ℕ) (n : Name) (v : L
 
   first : CanGive z.quota s i
   first =
-      let room = inside e.free n.lane i place.0 place.1 e.by_name e.by_life gone (map removal_of v ++ rest) counts in
-      let short = few e.free n.lane i place.0 place.1 e.by_name e.by_life gone (map removal_of v ++ rest) counts in
+      let room = inside e.free n.lane i place.0 place.1 e.by_name e.by_life gone _ counts in
+      let short = few e.free n.lane i place.0 place.1 e.by_name e.by_life gone _ counts in
       record {
         named = ap (λ (o : Option Name). is_some o) at;
         by_name = omega (arith, i_below, e.by_name);
@@ -130,17 +132,17 @@ module _ (z : Sizes) (s : Stocks) (links : List ℕ) (i : ℕ) (n : Name) (v : L
         few = subst (λ (l : ℕ). spare_at s.spare l + 1 < 2 ^ 32) (sym lane_is) (omega (arith, short, lane_end n.lane z.lanes z.quota place.0, few_items));
       }
 
-  module _ (after : Empties z (give_by z.quota s i n.lane) links (next_at links i) v units rest) where
-    after' : Empties z (give z.quota s i) links (next_at links i) v units rest
-    after' = subst (λ (t : Stocks). Empties z t links (next_at links i) v units rest) next_is after
+  module _ (after : Empties z (give_by z.quota s i n.lane) links (next_at links i) v used) where
+    after' : Empties z (give z.quota s i) links (next_at links i) v used
+    after' = subst (λ (t : Stocks). Empties z t links (next_at links i) v used) next_is after
 
     can : (k : ℕ) → k < length (n ∷ v) → CanGive z.quota (give_all z.quota s links i k) (chained links i k)
     can zero b = first
     can (suc k) b = subst (λ (t : Stocks). CanGive z.quota t (chained links i (suc k))) (sym (give_next z.quota s links i k))
         (subst (λ (j : ℕ). CanGive z.quota (give_all z.quota (give z.quota s i) links (next_at links i) k) j) (sym (chained_next links i k)) (after'.can k (omega arith)))
 
-    all : Emptied z s (give_all z.quota (give z.quota s i) links (next_at links i) (length v)) (n ∷ v) units rest
-    all = subst (λ (t : Stocks). Emptied z s (give_all z.quota t links (next_at links i) (length v)) (n ∷ v) units rest) next_is record {
+    all : Emptied z s (give_all z.quota (give z.quota s i) links (next_at links i) (length v)) (n ∷ v) used
+    all = subst (λ (t : Stocks). Emptied z s (give_all z.quota t links (next_at links i) (length v)) (n ∷ v) used) next_is record {
       free = after.end.free;
       by_name = after.end.by_name;
       by_life = after.end.by_life;
@@ -163,14 +165,14 @@ module _ (z : Sizes) (s : Stocks) (links : List ℕ) (i : ℕ) (n : Name) (v : L
             let other : same_name m n ≡ false = differs m n (λ same. apart (sym same)) in
             after.end.out j m (other_name j ne ∙ h) (sym (ap (λ (b : Bool). b || has v m) other) ∙ a))
 
-    empties_first : Empties z s links i (n ∷ v) units rest
-    empties_first = record { can = can; end = subst (λ (t : Stocks). Emptied z s t (n ∷ v) units rest) (sym (give_next z.quota s links i (length v))) all }
+    empties_first : Empties z s links i (n ∷ v) used
+    empties_first = record { can = can; end = subst (λ (t : Stocks). Emptied z s t (n ∷ v) used) (sym (give_next z.quota s links i (length v))) all }
 
-pub empties : (z : Sizes) (s : Stocks) (links : List ℕ) (i : ℕ) (v : List Name) (units : List (List Name)) (rest : List Removal) → item_count z < 2 ^ 32 → Emptying z s links i v units rest → Empties z s links i v units rest
-empties z s links i [] units rest few_items e = record {
+pub empties : (z : Sizes) (s : Stocks) (links : List ℕ) (i : ℕ) (v : List Name) (used : ℕ → ℕ) → item_count z < 2 ^ 32 → Emptying z s links i v used → Empties z s links i v used
+empties z s links i [] used few_items e = record {
   can = λ k b. absurd (omega arith);
-  end = record { free = e.free; by_name = e.by_name; by_life = e.by_life; out = λ j n a h. absurd cc; others = λ j f. (refl, refl) };
+  end = record { free = free_lives (lives_same s.lives) (λ lane. omega arith) e.free; by_name = e.by_name; by_life = e.by_life; out = λ j n a h. absurd cc; others = λ j f. (refl, refl) };
 }
-empties z s links i (n ∷ v) units rest few_items e =
-    empties_first z s links i n v units rest few_items e
-    (empties z (give_by z.quota s i n.lane) links (next_at links i) v units rest few_items (emptying_next z s links i n v units rest few_items e))
+empties z s links i (n ∷ v) used few_items e =
+    empties_first z s links i n v used few_items e
+    (empties z (give_by z.quota s i n.lane) links (next_at links i) v used few_items (emptying_next z s links i n v used few_items e))

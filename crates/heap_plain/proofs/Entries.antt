@@ -1,28 +1,27 @@
 -- A plain heap after the entries of a call.
-use Rattle.std.proofs.Common.{◌≡◌, ℕ, sym, subst, true, List, ◌++◌, Option}
+use Rattle.std.proofs.Common.{◌≡◌, sym, subst, List, ◌++◌}
 use Rattle.world_model.specs.Sizes.{Sizes}
-use Rattle.world_model.specs.NameLists.{has}
-use Rattle.world_model.specs.State.{State, beginning}
+use Rattle.world_model.specs.State.{State}
 use Rattle.world_model.specs.Next.{run}
 use Rattle.world_model.specs.Histories.{LegalFrom, state_of}
-use Rattle.world_model.proofs.Joins.{legal_join}
-use Rattle.heap_plain.specs.Types.{Name, Ref, Entry}
-use Rattle.heap_plain.specs.Parts.{Parts, Holds}
+use Rattle.world_model.specs.Calls.{by, Appends, CallOf}
+use Rattle.world_model.proofs.Solo.{solo}
+use Rattle.heap_plain.specs.Types.{Pass, Act, Entry}
+use Rattle.heap_plain.specs.Parts.{Parts}
 use Rattle.heap_plain.specs.Plain.{Shows, IsPlain}
 use Rattle.heap_plain.proofs.WorldFacts.{state_more}
+use Rattle.heap_plain.proofs.Resting.{rests}
 
--- legal entries, after which the vectors show the state that they leave
-pub plain_more : (z : Sizes) (p q : Parts) (h es : List Entry) → IsPlain z p h → LegalFrom z (state_of h) es → Shows z q (run (state_of h) es) → IsPlain z q (h ++ es)
-plain_more z p q h es was legal shows = record {
-  legal = legal_join z beginning h es was.legal legal;
-  shows = subst (λ (s : State). Shows z q s) (sym (state_more h es)) shows;
-}
+-- a call is done: it adds its entries, and the vectors are those of a plain heap again
+pub record Done (z : Sizes) (p : Parts) (old new : List Entry) (pass : Pass) (a : Act) : Type 0 where
+  pub plain : IsPlain z p new
+  pub entries : Appends z old new pass a
 
--- what was held is held where the names stay
-pub holds_more : (h es : List Entry) (names : List (Option Name)) (lane : ℕ) (r : Ref) → (has ((state_of h).frames lane).held r.name ≡ true → has ((run (state_of h) es).frames lane).held r.name ≡ true)
-    → Holds record { history = h; names = names } lane r → Holds record { history = h ++ es; names = names } lane r
-holds_more h es names lane r keeps was = record {
-  given = subst (λ (s : State). has (s.frames lane).held r.name ≡ true) (sym (state_more h es)) (keeps was.given);
-  placed = was.placed;
-  alone = was.alone;
-}
+-- the call has added its entries, and the vectors show what they leave
+pub ends : {z : Sizes} {p q : Parts} {h new : List Entry} {pass : Pass} {a : Act} → IsPlain z p h → Appends z h new pass a → Shows z q (state_of new) → Done z q h new pass a
+ends was entries shows = record { plain = record { legal = entries.legal; rest = rests entries was.rest; shows = shows }; entries = entries }
+
+-- the same by what the entries leave
+pub does : {z : Sizes} {p q : Parts} {h : List Entry} (pass : Pass) (a : Act) (acts : List Act) → IsPlain z p h → CallOf (state_of h) pass a acts → LegalFrom z (state_of h) (by pass acts) → Shows z q (run (state_of h) (by pass acts))
+    → Done z q h (h ++ by pass acts) pass a
+does {z} {q = q} {h} pass a acts was call legal shows = ends was (solo z h pass a acts call was.legal legal) (subst (λ (s : State). Shows z q s) (sym (state_more h (by pass acts))) shows)

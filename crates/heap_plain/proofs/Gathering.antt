@@ -7,20 +7,24 @@ use Rattle.std.proofs.lemmas.Grind.{flat_map-append}
 use Rattle.world_model.specs.Sizes.{Sizes}
 use Rattle.world_model.specs.NameLists.{same_name, has, members, begins_with}
 use Rattle.world_model.specs.World.{Removal, Removed as AtRemoved}
-use Rattle.world_model.proofs.ListFacts.{Among, among_append, among_filter, among_filter_test, filter_among}
-use Rattle.world_model.proofs.NameFacts.{same_name_true, same_name_refl}
+use Rattle.world_model.proofs.ListFacts.{Among, among_append, among_filter, among_filter_test, filter_among, among_left, among_right, test_among, among_test}
+use Rattle.world_model.proofs.NameFacts.{same_name_true, same_name_refl, among_members, among_has, has_among}
+use Rattle.world_model.proofs.Queues.{unit_in_order}
+use Rattle.world_model.proofs.Destroying.{order_of}
 use Rattle.heap_plain.specs.Types.{Name, Kind, Gathering}
 use Rattle.heap_plain.specs.declared.life.Life.{Life}
 use Rattle.heap_plain.specs.declared.life.Life.TheVariants.{Free, Live, Removed, Begun, Finished}
-use Rattle.heap_plain.specs.Parts.{name_at, life_at, first_at, is_gone, stage_of}
+use Rattle.heap_plain.specs.Parts.{Objects, name_at, life_at, first_at, is_gone, stage_of}
 use Rattle.heap_plain.specs.Stacks.{falling}
 use Rattle.heap_plain.specs.Sweeping.{removed_name, removed_names}
 use Rattle.heap_plain.specs.Listing.{chained, chain, begins, unit_at, units_at}
-use Rattle.heap_plain.specs.Sections.{Distinct, NamesShow, UnitsShow, RemovedShow, removal_at, GoneShow, LiesAt, AreLinked, AreNamed, still_there}
-use Rattle.heap_plain.proofs.WorldFacts.{among_has, has_among, among_left, among_right, test_among, among_test, no_longer}
+use Rattle.heap_plain.specs.Lists.{Distinct}
+use Rattle.heap_plain.specs.Units.{NamesShow, UnitsShow, AreLinked}
+use Rattle.heap_plain.specs.Destroying.{RemovedShow, removal_at, GoneShow, LiesAt, AreNamed, still_there}
+use Rattle.heap_plain.proofs.WorldFacts.{no_longer}
 use Rattle.heap_plain.proofs.Stacking.{length-falling}
 use Rattle.heap_plain.proofs.Standing.{name_below}
-use Rattle.heap_plain.proofs.NewNames.{among_members, members_among, distinct_append}
+use Rattle.heap_plain.proofs.NewNames.{members_among, distinct_append}
 use Rattle.heap_plain.proofs.Listings.{linked_named, linked_member}
 use Rattle.heap_plain.proofs.Queueing.{named_append, named_in}
 use Rattle.heap_plain.proofs.SliceSteps.{filter_none}
@@ -54,24 +58,6 @@ distinct_unit (v ∷ units) u d (inr a) = distinct_unit units u (distinct_right 
 
 -- ---- the order of destruction
 
-abbrev pub order_of : List (List Name) → List Name → List (List Name)
-order_of units found = flat_map (λ n. filter (begins_with n) units) found
-
-pub in_order_of : (units : List (List Name)) (found : List Name) (u : List Name) → Among (order_of units found) u → Among units u × ((n : Name) × Among found n × (begins_with n u ≡ true))
-in_order_of units [] u a = absurd a
-in_order_of units (n ∷ found) u a = go (among_append (filter (begins_with n) units) (order_of units found) u a) (in_order_of units found u)
-  where
-    go : Among (filter (begins_with n) units) u ⊎ Among (order_of units found) u → (Among (order_of units found) u → Among units u × ((m : Name) × Among found m × (begins_with m u ≡ true)))
-        → Among units u × ((m : Name) × Among (n ∷ found) m × (begins_with m u ≡ true))
-    go (inl b) rest = (among_filter (begins_with n) units u b, (n, inl refl, among_filter_test (begins_with n) units u b))
-    go (inr b) rest = let r = rest b in (r.0, (r.1.0, inr r.1.1, r.1.2))
-
-pub order_has : (units : List (List Name)) (found : List Name) (u : List Name) (n : Name) → Among units u → Among found n → begins_with n u ≡ true → Among (order_of units found) u
-order_has units [] u n a b e = absurd b
-order_has units (m ∷ found) u n a (inl same) e =
-    among_left (filter (begins_with m) units) (order_of units found) u (filter_among (begins_with m) units u a (ap (λ (x : Name). begins_with x u) same ∙ e))
-order_has units (m ∷ found) u n a (inr b) e = among_right (filter (begins_with m) units) (order_of units found) u (order_has units found u n a b e)
-
 -- a name stands in one unit
 pub same_unit : (units : List (List Name)) (u v : List Name) (n : Name) → Distinct (members units) → Among units u → Among units v → Among u n → Among v n → u ≡ v
 same_unit [] u v n d a b i j = absurd a
@@ -103,10 +89,10 @@ order_distinct units (n ∷ found) d f =
     apart m a b =
         let u = among_members (filter (begins_with n) units) m a in
         let v = among_members (order_of units found) m b in
-        let placed = in_order_of units found v.0 v.1 in
+        let placed = unit_in_order units found v.0 v.1 in
         let same = same_unit units u.0 v.0 m d (among_filter (begins_with n) units u.0 u.1) placed.0 (has_among u.0 m u.2) (has_among v.0 m v.2) in
         let first : begins_with n v.0 ≡ true = subst (λ (x : List Name). begins_with n x ≡ true) same (among_filter_test (begins_with n) units u.0 u.1) in
-        f.0 (subst (λ (x : Name). Among found x) (begins_both placed.1.0 n v.0 placed.1.2 first) placed.1.1)
+        f.0 (subst (λ (x : Name). Among found x) (begins_both placed.1.0 n v.0 placed.1.1 first) placed.1.2)
 
 -- ---- how many indexes there are
 
@@ -131,18 +117,18 @@ few_named names at of h d =
 
 -- ---- removed units
 
-module _ {z : Sizes} {names : List (Option Name)} {made : List ℕ} {kinds : ℕ → List Kind} {firsts sizes links waiting polls : List ℕ} {lives : List Life} {living : List (List Name)} {left swept looked : ℕ} {found : List Name} {removals : List Removal} {units : List (List Name)}
-    (ns : NamesShow z names made kinds) (us : UnitsShow z names firsts sizes links lives living) (rs : RemovedShow z names lives polls left swept Gathering removals found looked)
-    (gs : GoneShow z names firsts sizes links waiting lives removals units) where
+module _ {z : Sizes} {o : Objects} {kinds : ℕ → List Kind} {waiting polls : List ℕ} {living : List (List Name)} {left swept looked : ℕ} {found : List Name} {removals : List Removal} {units : List (List Name)}
+    (ns : NamesShow z o.names kinds) (us : UnitsShow z o living) (rs : RemovedShow z o.names o.lives polls left swept Gathering removals found looked) (gs : GoneShow z o waiting removals units)
+    (once : Distinct (members units)) (unbegun : (r : Removal) → Among removals r → r.stage ≡ AtRemoved) where
   abbrev Lies : ℕ → List Name → Type 0
-  Lies head u = LiesAt names firsts sizes links waiting lives removals units head u
+  Lies head u = LiesAt o waiting removals units head u
 
-  name_there : (i : ℕ) → is_gone (life_at lives i) ≡ true → (n : Name) × (name_at names i ≡ Some n)
-  name_there i e = us.named i (λ free. let none : is_gone (life_at lives i) ≡ false = ap is_gone free in absurd cc)
+  name_there : (i : ℕ) → is_gone (life_at o.lives i) ≡ true → (n : Name) × (name_at o.names i ≡ Some n)
+  name_there i e = us.named i (λ free. let none : is_gone (life_at o.lives i) ≡ false = ap is_gone free in absurd cc)
 
   -- while they are being found, none is begun
-  pub not_begun : (i : ℕ) → is_gone (life_at lives i) ≡ true → life_at lives i ≡ Removed
-  not_begun i e = let n = name_there i e in go (life_at lives i) e (rs.fresh refl (removal_at lives polls i n.0) (rs.removed i n.0 n.1 e))
+  pub not_begun : (i : ℕ) → is_gone (life_at o.lives i) ≡ true → life_at o.lives i ≡ Removed
+  not_begun i e = let n = name_there i e in go (life_at o.lives i) e (unbegun (removal_at o.lives polls i n.0) (rs.removed i n.0 n.1 e))
     where
       go : (life : Life) → is_gone life ≡ true → stage_of life ≡ AtRemoved → life ≡ Removed
       go Removed a b = refl
@@ -152,114 +138,74 @@ module _ {z : Sizes} {names : List (Option Name)} {made : List ℕ} {kinds : ℕ
       go Finished a b = absurd cc
 
   -- the first member of a unit is at its first index
-  pub first_begins : (head : ℕ) (u : List Name) (n : Name) → Lies head u → name_at names head ≡ Some n → begins_with n u ≡ true
+  pub first_begins : (head : ℕ) (u : List Name) (n : Name) → Lies head u → name_at o.names head ≡ Some n → begins_with n u ≡ true
   first_begins head u n t e = go u t.linked (t.whole head n (record { name = e; life = t.life }) t.own)
     where
-      go : (v : List Name) → AreLinked names links head v → has v n ≡ true → begins_with n v ≡ true
+      go : (v : List Name) → AreLinked o.names o.next head v → has v n ≡ true → begins_with n v ≡ true
       go [] l h = absurd cc
       go (m ∷ v) l h = let same : n ≡ m = (let x = l.0 in let y = e in cc) in ap (same_name n) (sym same) ∙ same_name_refl n
 
   -- and the other way round
-  head_first : (head : ℕ) (u : List Name) (n : Name) → Lies head u → begins_with n u ≡ true → name_at names head ≡ Some n
+  head_first : (head : ℕ) (u : List Name) (n : Name) → Lies head u → begins_with n u ≡ true → name_at o.names head ≡ Some n
   head_first head u n t e = go u t.linked e
     where
-      go : (v : List Name) → AreLinked names links head v → begins_with n v ≡ true → name_at names head ≡ Some n
+      go : (v : List Name) → AreLinked o.names o.next head v → begins_with n v ≡ true → name_at o.names head ≡ Some n
       go [] l h = absurd cc
       go (m ∷ v) l h = l.0 ∙ ap (λ (x : Name). Some x) (sym (same_name_true n m h))
 
   -- what is looked at, and what it gives of the order
-  unit_named : (i : ℕ) → AreNamed names (unit_at lives firsts sizes links i) (members (order_of units (removed_name (life_at lives i) (name_at names i))))
-  unit_named i = go (life_at lives i) refl
+  unit_named : (i : ℕ) → AreNamed o.names (unit_at o.lives o.firsts o.sizes o.next i) (members (order_of units (removed_name (life_at o.lives i) (name_at o.names i))))
+  unit_named i = go (life_at o.lives i) refl
     where
-      Goal : Life → Type 0
-      Goal life = AreNamed names (if_begins life) (members (order_of units (removed_name life (name_at names i))))
-        where
-          if_begins : Life → List ℕ
-          if_begins l = cond (begins l (first_at firsts i) i) (chain links i (get_or sizes i 0)) []
-
-      there : (n : Name) → life_at lives i ≡ Removed → name_at names i ≡ Some n → (b : Bool) → (first_at firsts i == i) ≡ b
-          → AreNamed names (cond b (chain links i (get_or sizes i 0)) []) (members (filter (begins_with n) units ++ []))
+      there : (n : Name) → life_at o.lives i ≡ Removed → name_at o.names i ≡ Some n → (b : Bool) → (first_at o.firsts i == i) ≡ b
+          → AreNamed o.names (cond b (chain o.next i (get_or o.sizes i 0)) []) (members (filter (begins_with n) units ++ []))
       there n e at true own =
           let r = gs.each i (ap is_gone e) in
-          let here = eqb-true (first_at firsts i) i own in
+          let here = eqb-true (first_at o.firsts i) i own in
           let t : Lies i r.0 = subst (λ (x : ℕ). Lies x r.0) here r.1 in
-          let one = filter_one n units r.0 gs.distinct t.among (first_begins i r.0 n t at) in
+          let one = filter_one n units r.0 once t.among (first_begins i r.0 n t at) in
           let list : members (filter (begins_with n) units ++ []) ≡ r.0 = ap members (append-nil (filter (begins_with n) units) ∙ one) ∙ append-nil r.0 in
-          subst (λ (xs : List ℕ). AreNamed names xs (members (filter (begins_with n) units ++ []))) (ap (chain links i) (sym t.size))
-          (subst (λ (xs : List Name). AreNamed names (chain links i (length r.0)) xs) (sym list) (linked_named names links i r.0 t.linked))
+          subst (λ (xs : List ℕ). AreNamed o.names xs (members (filter (begins_with n) units ++ []))) (ap (chain o.next i) (sym t.size))
+          (subst (λ (xs : List Name). AreNamed o.names (chain o.next i (length r.0)) xs) (sym list) (linked_named o.names o.next i r.0 t.linked))
       there n e at false own =
           let none = filter_none (begins_with n) units (λ v a f.
-          let known : still_there removals n ≡ true = among_test (λ r. same_name n r.name) removals (removal_at lives polls i n) (rs.removed i n at (ap is_gone e)) (same_name_refl n) in
+          let known : still_there removals n ≡ true = among_test (λ r. same_name n r.name) removals (removal_at o.lives polls i n) (rs.removed i n at (ap is_gone e)) (same_name_refl n) in
           let r = gs.all v n a (among_has v n (first_among n v f)) known in
           let same = ns.alone r.0 i n (head_first r.0 v n r.1 f) at in
-          eqb-false (first_at firsts i) i own (ap (first_at firsts) (sym same) ∙ r.1.own ∙ same)) in
+          eqb-false (first_at o.firsts i) i own (ap (first_at o.firsts) (sym same) ∙ r.1.own ∙ same)) in
           rw none tt
 
-      go : (life : Life) → life_at lives i ≡ life → AreNamed names (cond (begins life (first_at firsts i) i) (chain links i (get_or sizes i 0)) []) (members (order_of units (removed_name life (name_at names i))))
+      go : (life : Life) → life_at o.lives i ≡ life → AreNamed o.names (cond (begins life (first_at o.firsts i) i) (chain o.next i (get_or o.sizes i 0)) []) (members (order_of units (removed_name life (name_at o.names i))))
       go Removed e =
           let n = name_there i (ap is_gone e) in
-          subst (λ (o : Option Name). AreNamed names (cond (first_at firsts i == i) (chain links i (get_or sizes i 0)) []) (members (order_of units (removed_name Removed o)))) (sym n.1)
-          (there n.0 e n.1 (first_at firsts i == i) refl)
+          subst (λ (q : Option Name). AreNamed o.names (cond (first_at o.firsts i == i) (chain o.next i (get_or o.sizes i 0)) []) (members (order_of units (removed_name Removed q)))) (sym n.1)
+          (there n.0 e n.1 (first_at o.firsts i == i) refl)
       go Free e = tt
       go Live e = tt
       go Begun e = tt
       go Finished e = tt
 
-  pub units_named : (from count : ℕ) → AreNamed names (units_at lives firsts sizes links from count) (members (order_of units (removed_names names lives from count)))
+  pub units_named : (from count : ℕ) → AreNamed o.names (units_at o.lives o.firsts o.sizes o.next from count) (members (order_of units (removed_names o.names o.lives from count)))
   units_named from zero = tt
   units_named from (suc count) =
-      let before = removed_names names lives from count in
-      let here = removed_name (life_at lives (from + count)) (name_at names (from + count)) in
+      let before = removed_names o.names o.lives from count in
+      let here = removed_name (life_at o.lives (from + count)) (name_at o.names (from + count)) in
       let spread : members (order_of units (before ++ here)) ≡ members (order_of units before) ++ members (order_of units here) =
       ap members (flat_map-append (λ n. filter (begins_with n) units) before here) ∙ flat_map-append (λ (u : List Name). u) (order_of units before) (order_of units here) in
-      subst (λ (xs : List Name). AreNamed names (units_at lives firsts sizes links from (suc count)) xs) (sym spread)
-      (named_append names _ _ _ _ (units_named from count) (unit_named (from + count)))
+      subst (λ (xs : List Name). AreNamed o.names (units_at o.lives o.firsts o.sizes o.next from (suc count)) xs) (sym spread)
+      (named_append o.names _ _ _ _ (units_named from count) (unit_named (from + count)))
 
   -- the indexes of a unit
-  pub links_within : (i : ℕ) → begins (life_at lives i) (first_at firsts i) i ≡ true → (k : ℕ) → k < get_or sizes i 0 → chained links i k < length links
-  links_within i e k b = go (life_at lives i) refl e
+  pub links_within : (i : ℕ) → begins (life_at o.lives i) (first_at o.firsts i) i ≡ true → (k : ℕ) → k < get_or o.sizes i 0 → chained o.next i k < length o.next
+  links_within i e k b = go (life_at o.lives i) refl e
     where
-      go : (life : Life) → life_at lives i ≡ life → begins life (first_at firsts i) i ≡ true → chained links i k < length links
+      go : (life : Life) → life_at o.lives i ≡ life → begins life (first_at o.firsts i) i ≡ true → chained o.next i k < length o.next
       go Removed is own =
           let r = gs.each i (ap is_gone is) in
-          let t : Lies i r.0 = subst (λ (x : ℕ). Lies x r.0) (eqb-true (first_at firsts i) i own) r.1 in
-          let n = linked_member names links i r.0 t.linked k (omega (arith, t.size)) in
-          omega (arith, name_below names (chained links i k) n.0 n.1, ns.items, us.links_len)
+          let t : Lies i r.0 = subst (λ (x : ℕ). Lies x r.0) (eqb-true (first_at o.firsts i) i own) r.1 in
+          let n = linked_member o.names o.next i r.0 t.linked k (omega (arith, t.size)) in
+          omega (arith, name_below o.names (chained o.next i k) n.0 n.1, ns.items, us.links_len)
       go Free is own = absurd cc
       go Live is own = absurd cc
       go Begun is own = absurd cc
       go Finished is own = absurd cc
-
-  -- where all are found, the order has exactly the removed objects
-  pub order_all : (found' : List Name) → map (λ r. r.name) removals ≡ members units → ((i : ℕ) (n : Name) → name_at names i ≡ Some n → life_at lives i ≡ Removed → Among found' n)
-      → (n : Name) → still_there removals n ≡ has (members (order_of units found')) n
-  order_all found' all_there are_found n = both (still_there removals n) (has (members (order_of units found')) n) up down
-    where
-      both : (a b : Bool) → (a ≡ true → b ≡ true) → (b ≡ true → a ≡ true) → a ≡ b
-      both true b f g = sym (f refl)
-      both false true f g = g refl
-      both false false f g = refl
-
-      up : still_there removals n ≡ true → has (members (order_of units found')) n ≡ true
-      up e =
-          let r = test_among (λ r. same_name n r.name) removals e in
-          let at = rs.gone r.0 r.1 in
-          let named : name_at names at.0 ≡ Some n = at.1 ∙ ap (λ (x : Name). Some x) (sym (same_name_true n r.0.name r.2)) in
-          let t = gs.each at.0 at.2 in
-          let head = first_at firsts at.0 in
-          let m = name_there head t.1.life in
-          let u = order_has units found' t.0 m.0 t.1.among (are_found head m.0 m.1 (not_begun head t.1.life)) (first_begins head t.0 m.0 t.1 m.1) in
-          among_has (members (order_of units found')) n (members_among (order_of units found') t.0 n u (t.1.whole at.0 n (record { name = named; life = at.2 }) refl))
-
-      down : has (members (order_of units found')) n ≡ true → still_there removals n ≡ true
-      down e =
-          let v = among_members (order_of units found') n (has_among (members (order_of units found')) n e) in
-          let there : Among (members units) n = members_among units v.0 n (in_order_of units found' v.0 v.1).0 v.2 in
-          in_names removals n (among_has _ n (subst (λ (xs : List Name). Among xs n) (sym all_there) there))
-        where
-          in_names : (xs : List Removal) (m : Name) → has (map (λ r. r.name) xs) m ≡ true → still_there xs m ≡ true
-          in_names xs m h = sym (any_names xs m) ∙ h
-            where
-              any_names : (xs : List Removal) (m : Name) → has (map (λ r. r.name) xs) m ≡ still_there xs m
-              any_names [] m = refl
-              any_names (x ∷ xs) m = ap (λ (b : Bool). same_name m x.name || b) (any_names xs m)

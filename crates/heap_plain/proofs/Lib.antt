@@ -1,6 +1,8 @@
 pub mod Fillings
 pub mod Stacking
 pub mod WorldFacts
+pub mod Counting
+pub mod Resting
 pub mod Entries
 pub mod Queueing
 pub mod Listings
@@ -18,7 +20,6 @@ pub mod MarkSteps
 pub mod RootSteps
 pub mod Noting
 pub mod Shadings
-pub mod Quiet
 pub mod BeginSteps
 pub mod SliceSteps
 pub mod Needed

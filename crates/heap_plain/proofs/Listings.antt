@@ -9,7 +9,8 @@ use Rattle.heap_plain.specs.declared.life.Life.{Life}
 use Rattle.heap_plain.specs.Parts.{name_at, life_at, first_at, next_at}
 use Rattle.heap_plain.specs.Filling.{Filled}
 use Rattle.heap_plain.specs.Listing.{chained, chain, begins, unit_at, units_at, CanList, ListsUnits}
-use Rattle.heap_plain.specs.Sections.{AreLinked, AreNamed}
+use Rattle.heap_plain.specs.Units.{AreLinked}
+use Rattle.heap_plain.specs.Destroying.{AreNamed}
 
 -- ---- chains
 

@@ -14,9 +14,10 @@ use Rattle.world_model.specs.Next.{next, run}
 use Rattle.world_model.specs.MarkerSteps.{member_count, WasWithin, MayStop}
 use Rattle.world_model.specs.Histories.{MayBy, LegalFrom, Legal, after, state_of}
 use Rattle.world_model.specs.Calls.{by, is_mark_note, Appends}
-use Rattle.world_model.proofs.ListFacts.{Among, and_true}
+use Rattle.world_model.proofs.ListFacts.{Among, and_true, among_left, among_right}
 use Rattle.world_model.proofs.NameFacts.{set_at_same}
 use Rattle.world_model.proofs.Units.{AreApart, units_apart}
+use Rattle.world_model.proofs.Barrier.{barred}
 use Rattle.world_model.proofs.Joins.{legal_join, legal_split}
 use Rattle.heap_plain.specs.Types.{Name, Ref, Pass, Marker, Marking, MarkStop, Marked, Act, Entry}
 use Rattle.heap_plain.specs.Types.act
@@ -26,19 +27,20 @@ use Rattle.heap_plain.specs.Parts.{Parts, Shown, Holds, name_at, life_at, first_
 use Rattle.heap_plain.specs.Listing.{chained}
 use Rattle.heap_plain.specs.Notes.{names_at, all_set, StopsBy}
 use Rattle.heap_plain.specs.Shading.{InUnit, IsWorklist, Shades}
-use Rattle.heap_plain.specs.Sections.{Distinct, StandsAt, LivesAt, WorkShows, MarksShow, TargetsMarked, QueueShows, pushed_of, grey_of}
-use Rattle.heap_plain.specs.Plain.{Shows, IsPlain, as_in, Sliced, IsSlicing}
-use Rattle.heap_plain.proofs.WorldFacts.{same_pass_refl, none_out, state_more, among_left, among_right}
+use Rattle.heap_plain.specs.Lists.{Distinct}
+use Rattle.heap_plain.specs.Units.{StandsAt, LivesAt}
+use Rattle.heap_plain.specs.Colouring.{WorkShows, MarksShow, pushed_of, grey_of}
+use Rattle.heap_plain.specs.Destroying.{Destroying}
+use Rattle.heap_plain.specs.Plain.{ShowsWorld, Shows, IsPlain, Sliced, IsSlicing}
+use Rattle.heap_plain.proofs.WorldFacts.{same_pass_refl, none_out, state_more}
 use Rattle.heap_plain.proofs.Noting.{by-append, length-all_set}
-use Rattle.heap_plain.proofs.Shadings.{all_still}
-use Rattle.heap_plain.proofs.BeginSteps.{set_among}
-use Rattle.heap_plain.proofs.Entries.{holds_more}
-use Rattle.heap_plain.proofs.Quiet.{quiet_shows}
+use Rattle.heap_plain.proofs.Resting.{rests, keeps}
+use Rattle.heap_plain.proofs.Entries.{Done}
 use Rattle.heap_plain.proofs.Standing.{member_at, name_below, bit_below, live_used}
 use Rattle.heap_plain.proofs.Listings.{linked_member}
 use Rattle.heap_plain.proofs.Cells.{aims_target, aims_name, cell_ref, cell_below}
 use Rattle.heap_plain.proofs.MarkSteps.{distinct_drop}
-use Rattle.heap_plain.proofs.SliceSteps.{linked_place, count_cons, filter_none, no_marker, marking_or_not, grey_empty}
+use Rattle.heap_plain.proofs.SliceSteps.{linked_place, count_cons, filter_none, no_marker, not_true, marking_or_not, grey_empty}
 use Rattle.heap_plain.proofs.Needed.{keeps_append, keeps_opened}
 use Rattle.heap_plain.proofs.UnitSteps.{AtUnit, UnitRun, unit_run}
 
@@ -51,33 +53,26 @@ module _ (z : Sizes) (p : Parts) (h : List Entry) (marker budget : ℕ) (was : I
   abbrev s1 : State
   s1 = next (state_of h) open_entry
 
-  not_open : list_any (same_pass (Marker marker)) (after h).opened ≡ false
-  not_open = no_marker (after h).opened marker was.shows.frames.alone
-
   empty : (s1.slices marker).scanned ≡ []
   empty = ap (λ (x : Slicing). x.scanned) (set_at_same (state_of h).slices marker _)
 
-  sliced_start : Sliced z (state_of h) marker budget 0 p s1
-  sliced_start = record {
-    world = refl;
-    frames = refl;
-    earlier = [];
-    moments = ap (λ (x : Slicing). s1.world ∷ x.moments) (set_at_same (state_of h).slices marker _);
-    total_is = sym (ap (λ (us : List (List Name)). member_count us) empty);
-    within = subst (λ (us : List (List Name)). WasWithin budget us) (sym empty) tt;
-    shows = quiet_shows z p (state_of h) _ _ _ was.shows.none_agreed refl was.shows.no_steps was.shows;
-  }
-
   pub mark_starts : IsSlicing z (record { history = h; names = p.names }) marker budget 0 p (h ++ open_entry ∷ [])
   mark_starts = record {
-    closed = not_open;
+    rest = was.rest;
     notes = [];
     grown = refl;
     only = refl;
     needed = tt;
-    legal = legal_join z beginning h (open_entry ∷ []) was.legal (record { in_range = range; slice = not_open; may = tt }, tt);
-    sliced = subst (λ (s : State). Sliced z (state_of h) marker budget 0 p s) (sym (state_more h (open_entry ∷ []))) sliced_start;
-    held = λ lane r held. holds_more h (open_entry ∷ []) p.names lane r (λ e. e) held;
+    legal = legal_join z beginning h (open_entry ∷ []) was.legal (record { in_range = range; slice = no_marker (after h).opened marker (not_true _ was.rest.between.closed); may = tt }, tt);
+    names = refl;
+    sliced = subst (λ (s : State). Sliced z (state_of h) marker budget 0 p s) (sym (state_more h (open_entry ∷ []))) record {
+      world = refl;
+      earlier = [];
+      moments = ap (λ (x : Slicing). s1.world ∷ x.moments) (set_at_same (state_of h).slices marker _);
+      total_is = sym (ap (λ (us : List (List Name)). member_count us) empty);
+      within = subst (λ (us : List (List Name)). WasWithin budget us) (sym empty) tt;
+      shows = was.shows;
+    };
   }
 
 -- ---- a unit is scanned
@@ -89,7 +84,7 @@ module _ {z : Sizes} {old : Shown} {marker budget total : ℕ} {p : Parts} {hist
   abbrev w : World
   w = after old.history
 
-  abbrev k : Shows z p (as_in (state_of old.history) s)
+  abbrev k : ShowsWorld z p w s.marks.kept s.marks.fresh s.marks.scanned s.collector.asked
   k = i.sliced.shows
 
   apart : AreApart w.kinds w.units
@@ -101,6 +96,10 @@ module _ {z : Sizes} {old : Shown} {marker budget total : ℕ} {p : Parts} {hist
       go : (p.phase ≡ Marking) ⊎ (p.phase ≢ Marking) → p.phase ≡ Marking
       go (inl e) = e
       go (inr ne) = absurd (let t = k.idle ne in omega arith)
+
+  -- what was scanned was kept
+  scanned_kept : (v : List Name) → Among w.units v → list_any (has s.marks.scanned) v ≡ true → list_any (has s.marks.kept) v ≡ true
+  scanned_kept v a = (barred z history i.legal).tricolour.scanned_kept (ap (λ (x : World). x.phase) i.sliced.world ∙ sym k.phase ∙ marking) v (subst (λ (x : World). Among x.units v) (sym i.sliced.world) a)
 
   abbrev head : ℕ
   head = get_or p.work p.scanned 0
@@ -114,16 +113,16 @@ module _ {z : Sizes} {old : Shown} {marker budget total : ℕ} {p : Parts} {hist
   grey_split : grey_of p.work p.scanned p.pushed ≡ head ∷ rest
   grey_split = drop_more (take p.pushed p.work) p.scanned 0 (omega (arith, used)) ∙ ap (λ (x : ℕ). x ∷ rest) (get_or-take p.pushed p.work p.scanned 0 more)
 
-  abbrev m : MarksShow p.names p.firsts p.sizes p.next p.lives w.units p.marked (pushed_of p.work p.pushed) (grey_of p.work p.scanned p.pushed) s.marks.kept s.marks.fresh s.marks.scanned
+  abbrev m : MarksShow p.objects w.units p.marked (pushed_of p.work p.pushed) (grey_of p.work p.scanned p.pushed) s.marks.kept s.marks.fresh s.marks.scanned
   m = k.marks marking
 
-  own : (u : List Name) × StandsAt p.names p.firsts p.sizes p.next p.lives w.units head u
+  own : (u : List Name) × StandsAt p.objects w.units head u
   own = let r = m.grey_units head (subst (λ (xs : List ℕ). Among xs head) (sym grey_split) (inl refl)) in (r.0, r.1)
 
   abbrev u : List Name
   u = own.0
 
-  abbrev stands : StandsAt p.names p.firsts p.sizes p.next p.lives w.units head u
+  abbrev stands : StandsAt p.objects w.units head u
   stands = own.1
 
   abbrev size : ℕ
@@ -195,12 +194,12 @@ module _ {z : Sizes} {old : Shown} {marker budget total : ℕ} {p : Parts} {hist
 
     -- the state, with its world written out
     abbrev t0 : State
-    t0 = record { world = w1; marks = s.marks; frames = (state_of old.history).frames; slices = s.slices; collector = s.collector }
+    t0 = record { world = w1; marks = s.marks; frames = s.frames; slices = s.slices; collector = s.collector }
 
     same_state : t0 ≡ s
-    same_state = λ t. record { world = sym i.sliced.world t; marks = s.marks; frames = sym i.sliced.frames t; slices = s.slices; collector = s.collector }
+    same_state = λ t. record { world = sym i.sliced.world t; marks = s.marks; frames = s.frames; slices = s.slices; collector = s.collector }
 
-    at_unit : AtUnit z p.names p.made p.firsts p.sizes p.next p.lives w1 marker u head n At
+    at_unit : AtUnit z p.objects w1 marker u head n At
     at_unit = record {
       range = range;
       apart = apart;
@@ -229,15 +228,12 @@ module _ {z : Sizes} {old : Shown} {marker budget total : ℕ} {p : Parts} {hist
     abbrev es : List Entry
     es = by (Marker marker) acts
 
-    ran : UnitRun z p.names p.firsts p.sizes p.next p.lives (all_set p.marked heads) (pushed_of p.work p.pushed ++ heads) (rest ++ heads) marker u t0 acts
-    ran = unit_run z p.names p.made p.firsts p.sizes p.next p.lives t0 i.sliced.earlier marker u head n At p.marked (pushed_of p.work p.pushed) rest heads at_unit
+    ran : UnitRun z p.objects (all_set p.marked heads) (pushed_of p.work p.pushed ++ heads) (rest ++ heads) marker u t0 acts
+    ran = unit_run z p.objects t0 i.sliced.earlier marker u head n At p.marked (pushed_of p.work p.pushed) rest heads at_unit
         (i.sliced.moments ∙ ap (λ (x : World). x ∷ i.sliced.earlier) i.sliced.world) k.work.marked_len
         (subst (λ (xs : List ℕ). Distinct xs) grey_now (distinct_drop p.scanned (take pushed' work') sh.fits.distinct))
-        (subst (λ (xs : List ℕ). MarksShow p.names p.firsts p.sizes p.next p.lives w.units p.marked (pushed_of p.work p.pushed) xs s.marks.kept s.marks.fresh s.marks.scanned) grey_split m)
-        sh.can (λ t a. sym (ap (λ (xs : List Bool). get_or xs (first_at p.firsts t) false) sh.bits) ∙ sh.each t a)
-
-    still : (x : ℕ) → get_or p.marked x false ≡ true → get_or marked' x false ≡ true
-    still x e = ap (λ (xs : List Bool). get_or xs x false) sh.bits ∙ all_still p.marked heads x e
+        (subst (λ (xs : List ℕ). MarksShow p.objects w.units p.marked (pushed_of p.work p.pushed) xs s.marks.kept s.marks.fresh s.marks.scanned) grey_split m)
+        sh.can scanned_kept (λ t a. sym (ap (λ (xs : List Bool). get_or xs (first_at p.firsts t) false) sh.bits) ∙ sh.each t a)
 
     pushed_is : pushed' ≡ p.pushed + length heads
     pushed_is = sym sh.fits.used ∙ ap (λ (xs : List ℕ). length xs) sh.listed ∙ length-append (take p.pushed p.work) heads ∙ ap (λ (x : ℕ). x + length heads) used
@@ -268,69 +264,34 @@ module _ {z : Sizes} {old : Shown} {marker budget total : ℕ} {p : Parts} {hist
         get_or_within (x ∷ xs) zero h = inl refl
         get_or_within (x ∷ xs) (suc j) h = inr (get_or_within xs j (omega arith))
 
-    black_new : TargetsMarked z.slots p.firsts p.targets p.lives marked' (rest ++ heads)
-    black_new = record { each = λ x slot t live low at b g. dite (ℕ_discrete (first_at p.firsts x) head) (λ (e : first_at p.firsts x ≡ head). own_cell x slot t live low at e) (λ (ne : first_at p.firsts x ≢ head). other x slot t live low at b g ne (now_set x b)) }
-      where
-        own_cell : (x slot t : ℕ) → life_at p.lives x ≡ Live → slot < z.slots → target_at z.slots p.targets x slot ≡ Some t → first_at p.firsts x ≡ head → get_or marked' (first_at p.firsts t) false ≡ true
-        own_cell x slot t live low at e =
-            let named_x = k.units.named x (live_used p.lives x live) in
-            let lives_x : LivesAt p.names p.lives x named_x.0 = record { name = named_x.1; life = live } in
-            let there = aims_target (target_at z.slots p.targets x slot) (w.cell named_x.0 slot) t (k.cells.aims x named_x.0 slot lives_x low) at in
-            sh.each t (looked_at x named_x.0 slot t there.0 lives_x (stands.whole x named_x.0 lives_x e) there.1 at)
-
-        now_set : (x : ℕ) → get_or marked' (first_at p.firsts x) false ≡ true → (get_or p.marked (first_at p.firsts x) false ≡ true) ⊎ Among heads (first_at p.firsts x)
-        now_set x b = set_among p.marked heads (first_at p.firsts x) (sym (ap (λ (xs : List Bool). get_or xs (first_at p.firsts x) false) sh.bits) ∙ b)
-
-        other : (x slot t : ℕ) → life_at p.lives x ≡ Live → slot < z.slots → target_at z.slots p.targets x slot ≡ Some t → get_or marked' (first_at p.firsts x) false ≡ true → (Among (rest ++ heads) (first_at p.firsts x) → ⊥) → first_at p.firsts x ≢ head
-            → (get_or p.marked (first_at p.firsts x) false ≡ true) ⊎ Among heads (first_at p.firsts x) → get_or marked' (first_at p.firsts t) false ≡ true
-        other x slot t live low at b g ne (inr a) = absurd (g (among_right rest heads (first_at p.firsts x) a))
-        other x slot t live low at b g ne (inl before) = still (first_at p.firsts t) ((k.black marking).each x slot t live low at before (λ a. not_grey (subst (λ (xs : List ℕ). Among xs (first_at p.firsts x)) grey_split a)))
-          where
-            not_grey : (head ≡ first_at p.firsts x) ⊎ Among rest (first_at p.firsts x) → ⊥
-            not_grey (inl e) = ne (sym e)
-            not_grey (inr a) = g (among_left rest heads (first_at p.firsts x) a)
-
     abbrev q : Parts
-    q = record p { scanned = p.scanned + 1; pushed = pushed'; marked = marked'; work = work' }
+    q = record p { colours = record { marked = marked'; work = work'; scanned = p.scanned + 1; pushed = pushed' } }
 
     abbrev end : State
     end = run t0 es
 
-    shows_end : Shows z q (as_in (state_of old.history) end)
+    shows_end : ShowsWorld z q w end.marks.kept end.marks.fresh end.marks.scanned end.collector.asked
     shows_end = record {
-      phase = k.phase;
-      frames = k.frames;
-      names = k.names;
-      units = k.units;
-      distinct = k.distinct;
+      gate = k.gate;
+      objects = k.objects;
+      rows = k.rows;
       roots = k.roots;
-      held = k.held;
-      work = work_new;
-      idle = λ ne. absurd (ne marking);
-      marks = λ e.
-          subst (λ (xs : List ℕ). MarksShow p.names p.firsts p.sizes p.next p.lives w.units marked' (pushed_of work' pushed') xs end.marks.kept end.marks.fresh end.marks.scanned) (sym grey_new)
-          (subst (λ (xs : List ℕ). MarksShow p.names p.firsts p.sizes p.next p.lives w.units marked' xs (rest ++ heads) end.marks.kept end.marks.fresh end.marks.scanned) (sym sh.listed)
-          (subst (λ (xs : List Bool). MarksShow p.names p.firsts p.sizes p.next p.lives w.units xs (pushed_of p.work p.pushed ++ heads) (rest ++ heads) end.marks.kept end.marks.fresh end.marks.scanned) (sym sh.bits) ran.marks));
-      roots_marked = λ e x r. still (first_at p.firsts x) (k.roots_marked marking x r);
-      kinds = k.kinds;
-      cells = k.cells;
-      black = λ e. subst (λ (xs : List ℕ). TargetsMarked z.slots p.firsts p.targets p.lives marked' xs) (sym grey_new) black_new;
-      removed = k.removed;
-      gone = k.gone;
-      order = k.order;
-      gathers = k.gathers;
-      queue = λ e. subst (λ (last : Option Name). QueueShows p.names p.order p.listed p.begun p.from p.kept p.done w.removals w.last_removed w.found last) (sym ran.asked) (k.queue e);
-      free = k.free;
-      none_agreed = ran.agreed ∙ k.none_agreed;
-      none_asked = λ ne. ran.asked ∙ k.none_asked ne;
-      no_steps = ran.steps ∙ k.no_steps;
       garbage = k.garbage;
+      colours = record {
+        work = work_new;
+        idle = λ ne. absurd (ne marking);
+        marks = λ e.
+            subst (λ (xs : List ℕ). MarksShow p.objects w.units marked' (pushed_of work' pushed') xs end.marks.kept end.marks.fresh end.marks.scanned) (sym grey_new)
+            (subst (λ (xs : List ℕ). MarksShow p.objects w.units marked' xs (rest ++ heads) end.marks.kept end.marks.fresh end.marks.scanned) (sym sh.listed)
+            (subst (λ (xs : List Bool). MarksShow p.objects w.units xs (pushed_of p.work p.pushed ++ heads) (rest ++ heads) end.marks.kept end.marks.fresh end.marks.scanned) (sym sh.bits) ran.marks));
+      };
+      stock = k.stock;
+      ends = subst (λ (last : Option Name). Destroying z p.phase p.objects p.ends w.removals w.last_removed w.found w.swept last) (sym ran.asked) k.ends;
     }
 
     sliced_end : Sliced z (state_of old.history) marker budget (total + size) q end
     sliced_end = record {
       world = ran.world;
-      frames = ran.frames;
       earlier = ran.earlier;
       moments = ran.moments ∙ ap (λ (x : World). x ∷ ran.earlier) (sym ran.world);
       total_is =
@@ -362,16 +323,15 @@ module _ {z : Sizes} {old : Shown} {marker budget total : ℕ} {p : Parts} {hist
 
     pub mark_scans : IsSlicing z old marker budget (total + size) q (mid ++ scan_entry ∷ [])
     mark_scans = subst (λ (xs : List Entry). IsSlicing z old marker budget (total + size) q xs) (sym whole) record {
-      closed = i.closed;
+      rest = i.rest;
       notes = i.notes ++ acts;
       grown = ap (λ (xs : List Entry). xs ++ es) i.grown ∙ append_assoc old.history (by (Marker marker) (act.SliceOpen ∷ i.notes)) es
           ∙ ap (λ (xs : List Entry). old.history ++ xs) (sym (by-append (Marker marker) (act.SliceOpen ∷ i.notes) acts));
       only = both_notes i.notes acts i.only (all_notes (names_at p.names heads));
       needed = keeps_append w i.notes acts i.needed (keeps_opened w w1.opened acts ran.needed);
       legal = legal_join z beginning history es i.legal (subst (λ (x : State). LegalFrom z x es) same_state ran.legal);
+      names = i.names;
       sliced = subst (λ (x : State). Sliced z (state_of old.history) marker budget (total + size) q x) (end_is ∙ sym (state_more history es)) sliced_end;
-      held = λ lane r h. holds_more history es p.names lane r
-          (λ e. subst (λ (x : State). has (x.frames lane).held r.name ≡ true) end_is (subst (λ (f : ℕ → Frame). has (f lane).held r.name ≡ true) (sym ran.frames) (subst (λ (f : ℕ → Frame). has (f lane).held r.name ≡ true) i.sliced.frames e))) (i.held lane r h);
     }
 
 -- ---- the slice closes
@@ -383,7 +343,7 @@ module _ {z : Sizes} {old : Shown} {marker budget total : ℕ} {p : Parts} {hist
   abbrev v : World
   v = after old.history
 
-  abbrev h : Shows z p (as_in (state_of old.history) c)
+  abbrev h : ShowsWorld z p v c.marks.kept c.marks.fresh c.marks.scanned c.collector.asked
   h = i.sliced.shows
 
   abbrev reply : Marked
@@ -414,22 +374,13 @@ module _ {z : Sizes} {old : Shown} {marker budget total : ℕ} {p : Parts} {hist
   last = next c slice_entry
 
   out_again : filter (λ q. not (same_pass (Marker marker) q)) (Marker marker ∷ v.opened) ≡ v.opened
-  out_again = let e = same_pass_refl (Marker marker) in rw e (none_out (same_pass (Marker marker)) v.opened i.closed)
+  out_again = let e = same_pass_refl (Marker marker) in rw e (none_out (same_pass (Marker marker)) v.opened (no_marker v.opened marker (not_true _ i.rest.between.closed)))
 
   last_world : last.world ≡ v
   last_world = ap (λ (x : World). record x { opened = filter (λ q. not (same_pass (Marker marker) q)) x.opened }) i.sliced.world ∙ ap (λ (passes : List Pass). record v { opened = passes }) out_again
 
-  same_last : as_in (state_of old.history) last ≡ last
-  same_last = λ t. record { world = sym last_world t; marks = last.marks; frames = sym i.sliced.frames t; slices = last.slices; collector = last.collector }
-
-  shows_last : Shows z p last
-  shows_last = subst (λ (x : State). Shows z p x) same_last (quiet_shows z p (as_in (state_of old.history) c) _ _ _ h.none_agreed refl h.no_steps h)
-
-  pub sliced_invariant : IsPlain z p (history ++ slice_entry ∷ [])
-  sliced_invariant = record {
-    legal = legal_join z beginning history (slice_entry ∷ []) i.legal (may_slice, tt);
-    shows = subst (λ (x : State). Shows z p x) (sym (state_more history (slice_entry ∷ []))) shows_last;
-  }
+  legal_last : Legal z (history ++ slice_entry ∷ [])
+  legal_last = legal_join z beginning history (slice_entry ∷ []) i.legal (may_slice, tt)
 
   state_is : run (state_of old.history) (by (Marker marker) (act.SliceOpen ∷ i.notes)) ≡ c
   state_is = sym (state_more old.history (by (Marker marker) (act.SliceOpen ∷ i.notes))) ∙ ap (λ (xs : List Entry). state_of xs) (sym i.grown)
@@ -441,14 +392,25 @@ module _ {z : Sizes} {old : Shown} {marker budget total : ℕ} {p : Parts} {hist
   then_idle stop.Idle e less = refl
   then_idle stop.Spent e less = absurd (omega arith)
 
-  pub sliced_appends : Appends z old.history (history ++ slice_entry ∷ []) (Marker marker) (act.Slice budget reply)
-  sliced_appends = record {
+  sliced_entries : Appends z old.history (history ++ slice_entry ∷ []) (Marker marker) (act.Slice budget reply)
+  sliced_entries = record {
     acts = (act.SliceOpen ∷ i.notes) ++ act.Slice budget reply ∷ [];
-    call = record { notes = i.notes; are = refl; only = i.only; needed = i.needed; idle = (idle_then, λ both. then_idle why stops both.0) };
+    call = (record { notes = i.notes; are = refl; only = i.only }, record { needed = i.needed; idle = (idle_then, λ both. then_idle why stops both.0) });
     grown = ap (λ (xs : List Entry). xs ++ slice_entry ∷ []) i.grown ∙ append_assoc old.history (by (Marker marker) (act.SliceOpen ∷ i.notes)) (slice_entry ∷ [])
         ∙ sym (ap (λ (xs : List Entry). old.history ++ xs) (by-append (Marker marker) (act.SliceOpen ∷ i.notes) (act.Slice budget reply ∷ [])));
-    legal = sliced_invariant.legal;
+    legal = legal_last;
   }
 
-  pub sliced_held : (lane : ℕ) (r : Ref) → Holds old lane r → Holds (record { history = history ++ slice_entry ∷ []; names = p.names }) lane r
-  sliced_held lane r held = holds_more history (slice_entry ∷ []) p.names lane r (λ e. e) (i.held lane r held)
+  pub slice_ends : Done z p old.history (history ++ slice_entry ∷ []) (Marker marker) (act.Slice budget reply)
+  slice_ends = record {
+    plain = record {
+      legal = legal_last;
+      rest = rests sliced_entries i.rest;
+      shows = subst (λ (x : State). Shows z p x) (sym (state_more history (slice_entry ∷ [])))
+          (subst (λ (x : World). ShowsWorld z p x c.marks.kept c.marks.fresh c.marks.scanned c.collector.asked) (sym last_world) h);
+    };
+    entries = sliced_entries;
+  }
+
+  pub slice_held : (lane : ℕ) (r : Ref) → Holds old lane r → Holds (record { history = history ++ slice_entry ∷ []; names = p.names }) lane r
+  slice_held lane r held = subst (λ (ns : List (Option Name)). Holds (record { history = history ++ slice_entry ∷ []; names = ns }) lane r) (sym i.names) (keeps sliced_entries refl old.names lane r held)

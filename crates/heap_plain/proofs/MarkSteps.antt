@@ -8,14 +8,15 @@ use Rattle.std.proofs.lemmas.Bool.{and_from}
 use Rattle.std.proofs.lemmas.List.{length-set, get_or-set_same, get_or-set_other, take_more_set, drop-append-le, length-take-le}
 use Rattle.world_model.specs.Sizes.{Sizes, item_count}
 use Rattle.world_model.specs.NameLists.{same_name, has}
-use Rattle.world_model.proofs.ListFacts.{Among, among_append, and_true, or_true, or_right}
-use Rattle.world_model.proofs.NameFacts.{same_name_true, same_name_refl}
+use Rattle.world_model.proofs.ListFacts.{Among, among_append, and_true, or_true, or_right, among_left, among_right, test_among, among_test}
+use Rattle.world_model.proofs.NameFacts.{same_name_true, same_name_refl, has_among, among_has}
 use Rattle.world_model.proofs.Units.{AreApart}
 use Rattle.heap_plain.specs.Types.{Name, Kind}
-use Rattle.heap_plain.specs.declared.life.Life.{Life}
-use Rattle.heap_plain.specs.Parts.{name_at}
-use Rattle.heap_plain.specs.Sections.{Distinct, NamesShow, UnitsShow, StandsAt, WorkShows, MarksShow, pushed_of, grey_of}
-use Rattle.heap_plain.proofs.WorldFacts.{has_among, among_has, among_left, among_right, test_among, among_test, any_same, no_longer}
+use Rattle.heap_plain.specs.Parts.{Objects}
+use Rattle.heap_plain.specs.Lists.{Distinct}
+use Rattle.heap_plain.specs.Units.{NamesShow, UnitsShow, StandsAt}
+use Rattle.heap_plain.specs.Colouring.{WorkShows, MarksShow, pushed_of, grey_of}
+use Rattle.heap_plain.proofs.WorldFacts.{any_same, no_longer}
 use Rattle.heap_plain.proofs.Standing.{one_unit, head_of, bit_below}
 
 -- ---- lists without repetition
@@ -55,10 +56,13 @@ few_below n xs d less = let t = no_longer xs (below n) d (λ k h. among_below n 
 
 -- ---- one unit
 
-module _ {z : Sizes} {names : List (Option Name)} {made : List ℕ} {kinds : ℕ → List Kind} {firsts sizes links : List ℕ} {lives : List Life} {units : List (List Name)}
-    (ns : NamesShow z names made kinds) (us : UnitsShow z names firsts sizes links lives units) (apart : AreApart kinds units) where
+-- a unit with a kept member has one when more is kept
+pub kept_still : (u kept : List Name) (n : Name) → list_any (has kept) u ≡ true → list_any (has (n ∷ kept)) u ≡ true
+kept_still u kept n e = let f = test_among (has kept) u e in among_test (has (n ∷ kept)) u f.0 f.1 (or_right (same_name f.0 n) _ f.2)
+
+module _ {z : Sizes} {o : Objects} {kinds : ℕ → List Kind} {units : List (List Name)} (ns : NamesShow z o.names kinds) (us : UnitsShow z o units) (apart : AreApart kinds units) where
   abbrev Stands : ℕ → List Name → Type 0
-  Stands head u = StandsAt names firsts sizes links lives units head u
+  Stands head u = StandsAt o units head u
 
   -- a name of one unit is in no other
   pub not_in : (head other : ℕ) (u v : List Name) (n m : Name) → Stands head u → Stands other v → has u n ≡ true → other ≢ head → Among v m → same_name m n ≡ false
@@ -85,21 +89,16 @@ module _ {z : Sizes} {names : List (Option Name)} {made : List ℕ} {kinds : ℕ
   kept_there : (u kept : List Name) (n : Name) → has u n ≡ true → list_any (has (n ∷ kept)) u ≡ true
   kept_there u kept n e = among_test (has (n ∷ kept)) u n (has_among u n e) (let t = same_name_refl n in rw t refl)
 
-  kept_still : (u kept : List Name) (n : Name) → list_any (has kept) u ≡ true → list_any (has (n ∷ kept)) u ≡ true
-  kept_still u kept n e = let f = test_among (has kept) u e in among_test (has (n ∷ kept)) u f.0 f.1 (or_right (same_name f.0 n) _ f.2)
-
   -- a white unit is marked
-  pub mark_one : {marked : List Bool} {listed grey : List ℕ} {kept fresh scanned : List Name} (head : ℕ) (u : List Name) (n : Name) → Stands head u → has u n ≡ true → get_or marked head false ≡ false → head < length marked
-      → MarksShow names firsts sizes links lives units marked listed grey kept fresh scanned
-      → MarksShow names firsts sizes links lives units (set marked head true) (listed ++ head ∷ []) (grey ++ head ∷ []) (n ∷ kept) fresh scanned
-  mark_one {marked} {listed} {grey} {kept} {fresh} {scanned} head u n t e white inside k = record {
+  pub mark_one : {marked : List Bool} {listed grey : List ℕ} {kept fresh scanned : List Name} (head : ℕ) (u : List Name) (n : Name) → Stands head u → has u n ≡ true → get_or marked head false ≡ false → head < length marked → (list_any (has scanned) u ≡ true → list_any (has kept) u ≡ true)
+      → MarksShow o units marked listed grey kept fresh scanned
+      → MarksShow o units (set marked head true) (listed ++ head ∷ []) (grey ++ head ∷ []) (n ∷ kept) fresh scanned
+  mark_one {marked} {listed} {grey} {kept} {fresh} {scanned} head u n t e white inside sk k = record {
     bits = bits;
     listed_marked = λ other a. listed_marked other (among_append listed (head ∷ []) other a);
     distinct = distinct_snoc listed head k.distinct (λ a. let black = k.listed_marked head a in absurd (cc));
     grey_units = λ other a. grey_units other (among_append grey (head ∷ []) other a);
     all_grey = all_grey;
-    black_marked = λ other v q s. still other (k.black_marked other v q s);
-    known = λ m h. known m (or_true _ _ h);
   }
     where
       set_now : (other : ℕ) → other ≡ head → get_or (set marked head true) other false ≡ true
@@ -125,7 +124,10 @@ module _ {z : Sizes} {names : List (Option Name)} {made : List ℕ} {kinds : ℕ
         where
           go : (b : Bool) → list_any (has scanned) u ≡ b → b ≡ false
           go false is = refl
-          go true is = absurd (let black = k.black_marked head u t is in cc)
+          go true is =
+              let f = test_among (has kept) u (sk is) in
+              let marked_now = k.bits head u t ∙ among_test (λ m. has kept m || has fresh m) u f.0 f.1 (rw f.2 refl) in
+              absurd (let w = white in cc)
 
       grey_units : (other : ℕ) → Among grey other ⊎ ((head ≡ other) ⊎ ⊥) → (v : List Name) × Stands other v × ((list_any (has (n ∷ kept)) v && not (list_any (has scanned) v)) ≡ true)
       grey_units other (inl a) = let r = k.grey_units other a in let parts = and_true _ _ r.2 in (r.0, r.1, and_from _ _ (kept_still r.0 kept n parts.0) parts.1)
@@ -138,15 +140,11 @@ module _ {z : Sizes} {names : List (Option Name)} {made : List ℕ} {kinds : ℕ
           (λ (ne : head ≢ other). among_left grey (head ∷ []) other (k.all_grey other v q
           (let parts = and_true _ _ is in and_from _ _ (kept_same head other u v n kept t q e (λ x. ne (sym x)) ∙ parts.0) parts.1)))
 
-      known : (m : Name) → (same_name m n ≡ true) ⊎ (has kept m ≡ true) → (i : ℕ) × (name_at names i ≡ Some m)
-      known m (inl same) = let j = t.inside n e in (j.0, j.1.name ∙ ap (λ (x : Name). Some x) (sym (same_name_true m n same)))
-      known m (inr h) = k.known m h
-
 -- ---- places of the worklist
 
 -- a white head has room on it
-pub work_room : {z : Sizes} {names : List (Option Name)} {firsts sizes links : List ℕ} {lives : List Life} {units : List (List Name)} {marked : List Bool} {work : List ℕ} {scanned pushed : ℕ} {kept fresh black : List Name} (head : ℕ)
-    → WorkShows z marked work scanned pushed → MarksShow names firsts sizes links lives units marked (pushed_of work pushed) (grey_of work scanned pushed) kept fresh black → head < item_count z → get_or marked head false ≡ false → pushed < item_count z
+pub work_room : {z : Sizes} {o : Objects} {units : List (List Name)} {marked : List Bool} {work : List ℕ} {scanned pushed : ℕ} {kept fresh black : List Name} (head : ℕ)
+    → WorkShows z marked work scanned pushed → MarksShow o units marked (pushed_of work pushed) (grey_of work scanned pushed) kept fresh black → head < item_count z → get_or marked head false ≡ false → pushed < item_count z
 work_room {z} {marked} {work} {pushed} head ws k inside white =
     let t = few_below (item_count z) (head ∷ pushed_of work pushed) ((λ a. let black_bit = k.listed_marked head a in absurd (cc)), k.distinct) small in
     let len : length (pushed_of work pushed) ≡ pushed = length-take-le pushed work (omega (arith, ws.few, ws.work_len)) in

@@ -2,13 +2,12 @@
 use Rattle.std.proofs.Common.{◌≡◌, ℕ, ◌+◌, ◌<◌, ◌==◌, refl, sym, subst, ap, ◌∙◌, inl, inr, zero, suc, arith, Bool, cond, true, false, ◌||◌, ◌-◌, List, [], ◌∷◌, ◌++◌, length, get_or, map, ◌⊎◌, count_by}
 use Rattle.std.specs.List.{flat_map}
 use Rattle.std.proofs.lemmas.List.Folds.{list_any-append}
-use Rattle.std.proofs.lemmas.List.Sums.{sum_by-append}
 use Rattle.world_model.specs.NameLists.{same_name, has, names_from, members}
-use Rattle.world_model.proofs.ListFacts.{Among, among_append, or_true, or_right}
-use Rattle.world_model.proofs.NameFacts.{same_name_refl, names_from_range}
+use Rattle.world_model.proofs.ListFacts.{Among, among_append, or_true, or_right, among_left, among_right}
+use Rattle.world_model.proofs.Counts.{count-cons}
+use Rattle.world_model.proofs.NameFacts.{same_name_refl, names_from_range, has_among, among_has}
 use Rattle.heap_plain.specs.Types.{Name, Ref, Kind}
-use Rattle.heap_plain.specs.Sections.{Distinct}
-use Rattle.heap_plain.proofs.WorldFacts.{has_among, among_has, among_left, among_right}
+use Rattle.heap_plain.specs.Lists.{Distinct}
 
 -- ---- names in a row
 
@@ -41,22 +40,17 @@ distinct_row lane first (k ∷ kinds) =
     ((λ among. let range = names_from_range lane (first + 1) kinds _ (among_has _ _ among) in absurd (omega (arith, range.1))), distinct_row lane (first + 1) kinds)
 
 -- how many names of the row are of a lane
-count_one : (p : Name → Bool) (n : Name) (names : List Name) → count_by p (n ∷ names) ≡ cond (p n) 1 0 + count_by p names
-count_one p n names =
-    let t : count_by p (n ∷ names) ≡ 0 + cond {A = ℕ} (p n) 1 0 + count_by p names = sum_by-append (λ x. cond {A = ℕ} (p x) 1 0) (n ∷ []) names in
-    omega arith
-
 count_row_own : (lane first k : ℕ) (kinds : List Kind) → (lane == k) ≡ true → count_by (λ n. n.lane == k) (names_from lane first kinds) ≡ length kinds
 count_row_own lane first k [] e = refl
 count_row_own lane first k (kind ∷ kinds) e =
-    let one = count_one (λ n. n.lane == k) (record { lane = lane; count = first }) (names_from lane (first + 1) kinds) in
+    let one = count-cons (λ n. n.lane == k) (record { lane = lane; count = first }) (names_from lane (first + 1) kinds) in
     let bit : cond {A = ℕ} (lane == k) 1 0 ≡ 1 = ap (λ (b : Bool). cond {A = ℕ} b 1 0) e in
     omega (arith, count_row_own lane (first + 1) k kinds e)
 
 count_row_other : (lane first k : ℕ) (kinds : List Kind) → (lane == k) ≡ false → count_by (λ n. n.lane == k) (names_from lane first kinds) ≡ 0
 count_row_other lane first k [] e = refl
 count_row_other lane first k (kind ∷ kinds) e =
-    let one = count_one (λ n. n.lane == k) (record { lane = lane; count = first }) (names_from lane (first + 1) kinds) in
+    let one = count-cons (λ n. n.lane == k) (record { lane = lane; count = first }) (names_from lane (first + 1) kinds) in
     let bit : cond {A = ℕ} (lane == k) 1 0 ≡ 0 = ap (λ (b : Bool). cond {A = ℕ} b 1 0) e in
     omega (arith, count_row_other lane (first + 1) k kinds e)
 
@@ -85,14 +79,6 @@ names_of_row lane first (k ∷ kinds) (r ∷ out) len each =
     shift j = omega arith
 
 -- ---- members of units
-
-pub among_members : (units : List (List Name)) (n : Name) → Among (members units) n → (u : List Name) × Among units u × (has u n ≡ true)
-among_members [] n h = absurd h
-among_members (u ∷ units) n h = go (among_members units n) (among_append u (members units) n h)
-  where
-    go : (Among (members units) n → (v : List Name) × Among units v × (has v n ≡ true)) → Among u n ⊎ Among (members units) n → (v : List Name) × Among (u ∷ units) v × (has v n ≡ true)
-    go rest (inl a) = (u, inl refl, among_has u n a)
-    go rest (inr b) = let r = rest b in (r.0, inr r.1, r.2)
 
 pub members_among : (units : List (List Name)) (u : List Name) (n : Name) → Among units u → has u n ≡ true → Among (members units) n
 members_among [] u n h e = absurd h

@@ -8,7 +8,7 @@ use Rattle.world_model.specs.World.{World}
 use Rattle.world_model.specs.State.{State, Marks}
 use Rattle.world_model.specs.Next.{next_world, next, run}
 use Rattle.world_model.specs.Histories.{after, state_of}
-use Rattle.world_model.specs.Calls.{by, Appends, CallOf, is_mark_note, is_purge_part}
+use Rattle.world_model.specs.Calls.{by, Appends, EntriesOf, is_mark_note, is_purge_part}
 use Rattle.world_model.specs.Engines.{act_of_create, act_of_dissolve, IsInFrame}
 use Rattle.world_model.proofs.Joins.{run-append, by-append}
 use Rattle.world_model.proofs.ListFacts.{and_true}
@@ -45,10 +45,10 @@ by_entries : {z : Sizes} {old new : List Entry} {p : Pass} {a : Act} → (h : Ap
 by_entries {old} {p} h = ap (λ (es : List Entry). (after es).opened) h.grown ∙ ap (λ (s : State). s.world.opened) (state_more old (by p h.acts))
 
 pub opened_by_frame : {z : Sizes} {old new : List Entry} {lane : ℕ} {phase : Phase} → Appends z old new (Lane lane) (act.FrameOpen phase) → (after new).opened ≡ Lane lane ∷ (after old).opened
-opened_by_frame {old} {lane} h = by_entries h ∙ ap (λ (acts : List Act). (run (state_of old) (by (Lane lane) acts)).world.opened) h.call
+opened_by_frame {old} {lane} h = by_entries h ∙ ap (λ (acts : List Act). (run (state_of old) (by (Lane lane) acts)).world.opened) h.call.0
 
 pub closed_by_frame : {z : Sizes} {old new : List Entry} {lane : ℕ} → Appends z old new (Lane lane) act.FrameClose → (after new).opened ≡ filter (λ q. not (same_pass (Lane lane) q)) (after old).opened
-closed_by_frame {old} {lane} h = by_entries h ∙ ap (λ (acts : List Act). (run (state_of old) (by (Lane lane) acts)).world.opened) h.call
+closed_by_frame {old} {lane} h = by_entries h ∙ ap (λ (acts : List Act). (run (state_of old) (by (Lane lane) acts)).world.opened) h.call.0
 
 kept_inside : (of : List Name) → list_all is_inside (map act.Kept of) ≡ true
 kept_inside [] = refl
@@ -56,31 +56,31 @@ kept_inside (n ∷ of) = kept_inside of
 
 -- an answer of the collector, a root or a creation opens nothing
 pub same_by_begin : {z : Sizes} {old new : List Entry} {p : Pass} {reply : Begin} → Appends z old new p (act.BeginGc reply) → (after new).opened ≡ (after old).opened
-same_by_begin {old} {p} {reply} h = by_entries h ∙ run_opened (state_of old) p h.acts (go reply h.acts h.call)
+same_by_begin {old} {p} {reply} h = by_entries h ∙ run_opened (state_of old) p h.acts (go reply h.acts h.call.0)
   where
-    go : (r : Begin) (acts : List Act) → CallOf (state_of old) p (act.BeginGc r) acts → list_all is_inside acts ≡ true
+    go : (r : Begin) (acts : List Act) → EntriesOf (act.BeginGc r) acts → list_all is_inside acts ≡ true
     go begin.Started acts c = ap (list_all is_inside) c.are ∙ kept_inside c.of
     go (begin.Running at) acts c = ap (list_all is_inside) c
     go (begin.Purging n) acts c = ap (list_all is_inside) c
     go (begin.Frames n) acts c = ap (list_all is_inside) c
 
 pub same_by_commit : {z : Sizes} {old new : List Entry} {p : Pass} {reply : Commit} → Appends z old new p (act.CommitGc reply) → (after new).opened ≡ (after old).opened
-same_by_commit {old} {p} h = by_entries h ∙ run_opened (state_of old) p h.acts (ap (list_all is_inside) h.call.are)
+same_by_commit {old} {p} h = by_entries h ∙ run_opened (state_of old) p h.acts (ap (list_all is_inside) h.call.0)
 
 pub same_by_root : {z : Sizes} {old new : List Entry} {p : Pass} {at : Name} {on was : Bool} → Appends z old new p (act.Root at on was) → (after new).opened ≡ (after old).opened
-same_by_root {old} {p} {at} {on} {was} h = by_entries h ∙ run_opened (state_of old) p h.acts (go h.acts h.call)
+same_by_root {old} {p} {at} {on} {was} h = by_entries h ∙ run_opened (state_of old) p h.acts (go h.acts h.call.0)
   where
-    go : (acts : List Act) → CallOf (state_of old) p (act.Root at on was) acts → list_all is_inside acts ≡ true
+    go : (acts : List Act) → EntriesOf (act.Root at on was) acts → list_all is_inside acts ≡ true
     go acts (inl e) = ap (list_all is_inside) e
     go acts (inr e) = ap (list_all is_inside) e.1
 
 pub same_by_create : {z : Sizes} {old new : List Entry} {p : Pass} {T : Type 0} (lane : ℕ) (kinds : List Kind) (result : Result T CreateErr) → Appends z old new p (act_of_create (after old) lane kinds result) → (after new).opened ≡ (after old).opened
-same_by_create {old} {p} lane kinds (Ok made) h = by_entries h ∙ run_opened (state_of old) p h.acts (ap (list_all is_inside) h.call)
-same_by_create {old} {p} lane kinds (Err (create.Full free)) h = by_entries h ∙ run_opened (state_of old) p h.acts (ap (list_all is_inside) h.call)
-same_by_create {old} {p} lane kinds (Err (create.NamesSpent left)) h = by_entries h ∙ run_opened (state_of old) p h.acts (ap (list_all is_inside) h.call)
+same_by_create {old} {p} lane kinds (Ok made) h = by_entries h ∙ run_opened (state_of old) p h.acts (ap (list_all is_inside) h.call.0)
+same_by_create {old} {p} lane kinds (Err (create.Full free)) h = by_entries h ∙ run_opened (state_of old) p h.acts (ap (list_all is_inside) h.call.0)
+same_by_create {old} {p} lane kinds (Err (create.NamesSpent left)) h = by_entries h ∙ run_opened (state_of old) p h.acts (ap (list_all is_inside) h.call.0)
 
 pub same_by_sweep : {z : Sizes} {old new : List Entry} {p : Pass} {budget : ℕ} {reply : Swept} {names : List Name} → Appends z old new p (act.Sweep budget reply names) → (after new).opened ≡ (after old).opened
-same_by_sweep {old} {p} {budget} {reply} {names} h = by_entries h ∙ run_opened (state_of old) p h.acts (ap (list_all is_inside) h.call)
+same_by_sweep {old} {p} {budget} {reply} {names} h = by_entries h ∙ run_opened (state_of old) p h.acts (ap (list_all is_inside) h.call.0)
 
 -- nor does a purge
 parts_inside : (parts : List Act) (last : Act) → is_inside last ≡ true → list_all is_purge_part parts ≡ true → list_all is_inside (parts ++ last ∷ []) ≡ true
@@ -96,15 +96,15 @@ parts_inside (a ∷ parts) last e h = let split = and_true (is_purge_part a) _ h
 
 pub same_by_purge : {z : Sizes} {old new : List Entry} {p : Pass} {budget : ℕ} {reply : Purged} → Appends z old new p (act.PurgeGc budget reply) → (after new).opened ≡ (after old).opened
 same_by_purge {old} {p} {budget} {reply} h =
-    by_entries h ∙ run_opened (state_of old) p h.acts (ap (list_all is_inside) h.call.are ∙ parts_inside h.call.parts (act.PurgeGc budget reply) refl h.call.only)
+    by_entries h ∙ run_opened (state_of old) p h.acts (ap (list_all is_inside) h.call.0.are ∙ parts_inside h.call.0.parts (act.PurgeGc budget reply) refl h.call.0.only)
 
 -- a slice closes what it has opened
 pub closed_by_slice : {z : Sizes} {old new : List Entry} {marker budget : ℕ} {reply : Marked} → Appends z old new (Marker marker) (act.Slice budget reply) → (after old).opened ≡ [] → (after new).opened ≡ []
 closed_by_slice {old = old} {marker = marker} {budget} {reply} h none =
-    by_entries h ∙ ap (λ (acts : List Act). (run (state_of old) (by (Marker marker) acts)).world.opened) h.call.are
-    ∙ ap (λ (es : List Entry). (run (state_of old) es).world.opened) (by-append (Marker marker) (act.SliceOpen ∷ h.call.notes) (act.Slice budget reply ∷ []))
-    ∙ ap (λ (s : State). s.world.opened) (run-append (state_of old) (by (Marker marker) (act.SliceOpen ∷ h.call.notes)) (by (Marker marker) (act.Slice budget reply ∷ [])))
-    ∙ ap (filter (λ q. not (same_pass (Marker marker) q))) (run_opened (next (state_of old) (record { pass = Marker marker; act = act.SliceOpen })) (Marker marker) h.call.notes (notes_inside h.call.notes h.call.only) ∙ ap (λ (passes : List Pass). Marker marker ∷ passes) none)
+    by_entries h ∙ ap (λ (acts : List Act). (run (state_of old) (by (Marker marker) acts)).world.opened) h.call.0.are
+    ∙ ap (λ (es : List Entry). (run (state_of old) es).world.opened) (by-append (Marker marker) (act.SliceOpen ∷ h.call.0.notes) (act.Slice budget reply ∷ []))
+    ∙ ap (λ (s : State). s.world.opened) (run-append (state_of old) (by (Marker marker) (act.SliceOpen ∷ h.call.0.notes)) (by (Marker marker) (act.Slice budget reply ∷ [])))
+    ∙ ap (filter (λ q. not (same_pass (Marker marker) q))) (run_opened (next (state_of old) (record { pass = Marker marker; act = act.SliceOpen })) (Marker marker) h.call.0.notes (notes_inside h.call.0.notes h.call.0.only) ∙ ap (λ (passes : List Pass). Marker marker ∷ passes) none)
     ∙ out (same_pass (Marker marker) (Marker marker)) (same_pass_refl (Marker marker))
   where
     note_inside : (a : Act) → is_mark_note a ≡ true → is_inside a ≡ true
@@ -139,33 +139,33 @@ closes_alone h one = closed_by_frame h ∙ ap (filter (λ q. not (same_pass (Lan
 
 -- reading and writing cells opens nothing
 pub same_by_read : {z : Sizes} {old new : List Entry} {p : Pass} {at : Name} {slot : ℕ} {got : Option Name} → Appends z old new p (act.ReadRef at slot got) → (after new).opened ≡ (after old).opened
-same_by_read {old} {p} h = by_entries h ∙ run_opened (state_of old) p h.acts (ap (list_all is_inside) h.call)
+same_by_read {old} {p} h = by_entries h ∙ run_opened (state_of old) p h.acts (ap (list_all is_inside) h.call.0)
 
 pub same_by_write : {z : Sizes} {old new : List Entry} {p : Pass} {at : Name} {slot : ℕ} {to was : Option Name} → Appends z old new p (act.WriteRef at slot to was) → (after new).opened ≡ (after old).opened
-same_by_write {old} {p} {at} {slot} {to} {was} h = by_entries h ∙ run_opened (state_of old) p h.acts (go h.acts h.call)
+same_by_write {old} {p} {at} {slot} {to} {was} h = by_entries h ∙ run_opened (state_of old) p h.acts (go h.acts h.call.0)
   where
-    go : (acts : List Act) → CallOf (state_of old) p (act.WriteRef at slot to was) acts → list_all is_inside acts ≡ true
+    go : (acts : List Act) → EntriesOf (act.WriteRef at slot to was) acts → list_all is_inside acts ≡ true
     go acts (inl e) = ap (list_all is_inside) e
     go acts (inr e) = ap (list_all is_inside) e.1
 
 pub same_by_read_plain : {z : Sizes} {old new : List Entry} {p : Pass} {at : Name} {slot got : ℕ} → Appends z old new p (act.ReadPlain at slot got) → (after new).opened ≡ (after old).opened
-same_by_read_plain {old} {p} h = by_entries h ∙ run_opened (state_of old) p h.acts (ap (list_all is_inside) h.call)
+same_by_read_plain {old} {p} h = by_entries h ∙ run_opened (state_of old) p h.acts (ap (list_all is_inside) h.call.0)
 
 pub same_by_write_plain : {z : Sizes} {old new : List Entry} {p : Pass} {at : Name} {slot value was : ℕ} → Appends z old new p (act.WritePlain at slot value was) → (after new).opened ≡ (after old).opened
-same_by_write_plain {old} {p} h = by_entries h ∙ run_opened (state_of old) p h.acts (ap (list_all is_inside) h.call)
+same_by_write_plain {old} {p} h = by_entries h ∙ run_opened (state_of old) p h.acts (ap (list_all is_inside) h.call.0)
 
 -- nor does marking objects as garbage, or telling whether they are
 pub same_by_garbage : {z : Sizes} {old new : List Entry} {p : Pass} {at : Name} {was : Bool} → Appends z old new p (act.MarkGarbage at was) → (after new).opened ≡ (after old).opened
-same_by_garbage {old} {p} h = by_entries h ∙ run_opened (state_of old) p h.acts (ap (list_all is_inside) h.call)
+same_by_garbage {old} {p} h = by_entries h ∙ run_opened (state_of old) p h.acts (ap (list_all is_inside) h.call.0)
 
 pub same_by_valid : {z : Sizes} {old new : List Entry} {p : Pass} {at : Name} {valid : Bool} → Appends z old new p (act.IsValid at valid) → (after new).opened ≡ (after old).opened
-same_by_valid {old} {p} h = by_entries h ∙ run_opened (state_of old) p h.acts (ap (list_all is_inside) h.call)
+same_by_valid {old} {p} h = by_entries h ∙ run_opened (state_of old) p h.acts (ap (list_all is_inside) h.call.0)
 
 -- nor does taking a unit apart
 pub same_by_dissolve : {z : Sizes} {old new : List Entry} {lane : ℕ} (at : Name) (result : Result ℕ DissolveErr) → Appends z old new (Lane lane) (act_of_dissolve at result) → (after new).opened ≡ (after old).opened
-same_by_dissolve {old} {lane} at (Ok count) h = by_entries h ∙ run_opened (state_of old) (Lane lane) h.acts (ap (list_all is_inside) h.call.are ∙ leaving h.call.of)
+same_by_dissolve {old} {lane} at (Ok count) h = by_entries h ∙ run_opened (state_of old) (Lane lane) h.acts (ap (list_all is_inside) h.call.0.are ∙ leaving h.call.0.of)
   where
     leaving : (of : List Name) → list_all is_inside (map act.Loose of ++ act.Dissolve at count ∷ []) ≡ true
     leaving [] = refl
     leaving (n ∷ of) = leaving of
-same_by_dissolve {old} {lane} at (Err refused) h = by_entries h ∙ run_opened (state_of old) (Lane lane) h.acts (ap (list_all is_inside) h.call)
+same_by_dissolve {old} {lane} at (Err refused) h = by_entries h ∙ run_opened (state_of old) (Lane lane) h.acts (ap (list_all is_inside) h.call.0)

@@ -16,9 +16,12 @@ use Rattle.world_model.proofs.Units.{AreApart}
 use Rattle.heap_plain.specs.Types.{Name, Kind}
 use Rattle.heap_plain.specs.declared.life.Life.{Life}
 use Rattle.heap_plain.specs.declared.life.Life.TheVariants.{Live}
-use Rattle.heap_plain.specs.Parts.{name_at, life_at, first_at, next_at, is_gone}
+use Rattle.heap_plain.specs.Parts.{Objects, name_at, life_at, first_at, next_at, is_gone}
 use Rattle.heap_plain.specs.Listing.{chained}
-use Rattle.heap_plain.specs.Sections.{Distinct, NamesShow, UnitsShow, StandsAt, LivesAt, AreLinked, GoneShow, LiesAt, FreeShows}
+use Rattle.heap_plain.specs.Lists.{Distinct}
+use Rattle.heap_plain.specs.Units.{NamesShow, UnitsShow, StandsAt, LivesAt, AreLinked}
+use Rattle.heap_plain.specs.Stocking.{FreeShows}
+use Rattle.heap_plain.specs.Destroying.{GoneShow, LiesAt}
 use Rattle.heap_plain.proofs.Listings.{chained_next}
 use Rattle.heap_plain.proofs.Standing.{one_head, one_unit, name_below}
 
@@ -38,54 +41,36 @@ starts_with : (names : List (Option Name)) (links : List ℕ) (head : ℕ) (u : 
 starts_with names links head [] some h = absurd (some refl)
 starts_with names links head (n ∷ u) some h = (n, h.0, let t = same_name_refl n in rw t refl)
 
--- ---- the members of all units stay, in their order
-
-pub distinct_left : (units : List (List Name)) (n : Name) → Distinct (members units) → Distinct (members (flat_map (parted n) units))
-distinct_left units n d = subst (λ (xs : List Name). Distinct xs) (sym (members_parted n units)) d
-
-pub free_left : {z : Sizes} {names : List (Option Name)} {lives : List Life} {free spare : List ℕ} {removals : List Removal} (units : List (List Name)) (n : Name) → FreeShows z names lives free spare units removals
-    → FreeShows z names lives free spare (flat_map (parted n) units) removals
-free_left units n f = record {
-  free_len = f.free_len;
-  spare_len = f.spare_len;
-  of_lane = f.of_lane;
-  unused = f.unused;
-  once = f.once;
-  all = f.all;
-  nameless = f.nameless;
-  count = λ lane b. let same = ap (λ (xs : List Name). count_by (λ m. m.lane == lane) xs) (members_parted n units) in omega (arith, f.count lane b);
-}
-
 -- ---- one member leaves
 
-module _ {z : Sizes} {names : List (Option Name)} {made : List ℕ} {kinds : ℕ → List Kind} {firsts sizes links : List ℕ} {lives : List Life} {units : List (List Name)} (ns : NamesShow z names made kinds) (us : UnitsShow z names firsts sizes links lives units)
-    (apart : AreApart kinds units) (head : ℕ) (u : List Name) (t : StandsAt names firsts sizes links lives units head u) (n : Name) (ends : ends_with n u ≡ true) (left : ℕ) (size : length u ≡ suc left) where
+module _ {z : Sizes} {o : Objects} {kinds : ℕ → List Kind} {units : List (List Name)} (ns : NamesShow z o.names kinds) (us : UnitsShow z o units)
+    (apart : AreApart kinds units) (head : ℕ) (u : List Name) (t : StandsAt o units head u) (n : Name) (ends : ends_with n u ≡ true) (left : ℕ) (size : length u ≡ suc left) where
   abbrev i : ℕ
-  i = chained links head left
+  i = chained o.next head left
 
   pub front_size : length (but_last u) ≡ left
   front_size = let all = ap (λ (v : List Name). length v) (ends_splits n u ends) in let parts = length-append (but_last u) (n ∷ []) in omega arith
 
-  linked_all : AreLinked names links head (but_last u ++ n ∷ [])
-  linked_all = subst (λ (v : List Name). AreLinked names links head v) (ends_splits n u ends) t.linked
+  linked_all : AreLinked o.names o.next head (but_last u ++ n ∷ [])
+  linked_all = subst (λ (v : List Name). AreLinked o.names o.next head v) (ends_splits n u ends) t.linked
 
-  pub named_last : name_at names i ≡ Some n
-  named_last = subst (λ (k : ℕ). name_at names (chained links head k) ≡ Some n) front_size (linked_last names links head (but_last u) n linked_all)
+  pub named_last : name_at o.names i ≡ Some n
+  named_last = subst (λ (k : ℕ). name_at o.names (chained o.next head k) ≡ Some n) front_size (linked_last o.names o.next head (but_last u) n linked_all)
 
   own : has u n ≡ true
   own = ends_own n u ends
 
-  place : (j : ℕ) × LivesAt names lives j n × (first_at firsts j ≡ head)
+  place : (j : ℕ) × LivesAt o.names o.lives j n × (first_at o.firsts j ≡ head)
   place = t.inside n own
 
   same_place : place.0 ≡ i
   same_place = ns.alone place.0 i n place.1.name named_last
 
-  here : LivesAt names lives i n
-  here = subst (λ (j : ℕ). LivesAt names lives j n) same_place place.1
+  here : LivesAt o.names o.lives i n
+  here = subst (λ (j : ℕ). LivesAt o.names o.lives j n) same_place place.1
 
-  first_here : first_at firsts i ≡ head
-  first_here = ap (first_at firsts) (sym same_place) ∙ place.2
+  first_here : first_at o.firsts i ≡ head
+  first_here = ap (first_at o.firsts) (sym same_place) ∙ place.2
 
   left_out : (has (but_last u) n ≡ false) × (all_different (but_last u) ≡ true)
   left_out = different_left n u ends (apart.different u t.among)
@@ -93,51 +78,55 @@ module _ {z : Sizes} {names : List (Option Name)} {made : List ℕ} {kinds : ℕ
   -- the head is another place
   not_head : but_last u ≢ [] → i ≢ head
   not_head some same =
-      let first = starts_with names links head (but_last u) some (linked_front names links head (but_last u) (n ∷ []) linked_all) in
-      let is : ◌≡◌ {A = Option Name} (Some n) (Some first.0) = sym named_last ∙ ap (name_at names) same ∙ first.1 in
+      let first = starts_with o.names o.next head (but_last u) some (linked_front o.names o.next head (but_last u) (n ∷ []) linked_all) in
+      let is : ◌≡◌ {A = Option Name} (Some n) (Some first.0) = sym named_last ∙ ap (name_at o.names) same ∙ first.1 in
       let name : n ≡ first.0 = cc in
       both_ways (has (but_last u) n) left_out.0 (ap (λ (m : Name). has (but_last u) m) name ∙ first.2)
 
   below : i < item_count z
-  below = omega (arith, name_below names i n named_last, ns.items)
+  below = omega (arith, name_below o.names i n named_last, ns.items)
 
   module _ (some : but_last u ≢ []) (head_below : head < item_count z) where
     abbrev firsts' : List ℕ
-    firsts' = set firsts i i
+    firsts' = set o.firsts i i
 
     abbrev sizes' : List ℕ
-    sizes' = set (set sizes i 1) head left
+    sizes' = set (set o.sizes i 1) head left
+
+    -- the objects after it
+    abbrev o' : Objects
+    o' = record o { firsts = firsts'; sizes = sizes' }
 
     apart_head : i ≢ head
     apart_head = not_head some
 
     first_own : first_at firsts' i ≡ i
-    first_own = get_or-set_same firsts i i 0 (omega (arith, below, us.firsts_len))
+    first_own = get_or-set_same o.firsts i i 0 (omega (arith, below, us.firsts_len))
 
-    first_other : (j : ℕ) → j ≢ i → first_at firsts' j ≡ first_at firsts j
-    first_other j ne = get_or-set_other firsts i j i 0 ne
+    first_other : (j : ℕ) → j ≢ i → first_at firsts' j ≡ first_at o.firsts j
+    first_other j ne = get_or-set_other o.firsts i j i 0 ne
 
     size_own : get_or sizes' i 0 ≡ 1
-    size_own = get_or-set_other (set sizes i 1) head i left 0 apart_head ∙ get_or-set_same sizes i 1 0 (omega (arith, below, us.sizes_len))
+    size_own = get_or-set_other (set o.sizes i 1) head i left 0 apart_head ∙ get_or-set_same o.sizes i 1 0 (omega (arith, below, us.sizes_len))
 
     size_head : get_or sizes' head 0 ≡ left
-    size_head = get_or-set_same (set sizes i 1) head left 0 (omega (arith, head_below, us.sizes_len, length-set sizes i 1))
+    size_head = get_or-set_same (set o.sizes i 1) head left 0 (omega (arith, head_below, us.sizes_len, length-set o.sizes i 1))
 
-    size_other : (j : ℕ) → j ≢ i → j ≢ head → get_or sizes' j 0 ≡ get_or sizes j 0
-    size_other j ne other = get_or-set_other (set sizes i 1) head j left 0 other ∙ get_or-set_other sizes i j 1 0 ne
+    size_other : (j : ℕ) → j ≢ i → j ≢ head → get_or sizes' j 0 ≡ get_or o.sizes j 0
+    size_other j ne other = get_or-set_other (set o.sizes i 1) head j left 0 other ∙ get_or-set_other o.sizes i j 1 0 ne
 
     -- another index has another name
-    named_other : (j : ℕ) (m : Name) → name_at names j ≡ Some m → m ≢ n → j ≢ i
-    named_other j m e ne same = let is : ◌≡◌ {A = Option Name} (Some m) (Some n) = sym e ∙ ap (name_at names) same ∙ named_last in ne cc
+    named_other : (j : ℕ) (m : Name) → name_at o.names j ≡ Some m → m ≢ n → j ≢ i
+    named_other j m e ne same = let is : ◌≡◌ {A = Option Name} (Some m) (Some n) = sym e ∙ ap (name_at o.names) same ∙ named_last in ne cc
 
     -- what is left of the unit
-    pub stands_front : StandsAt names firsts' sizes' links lives (flat_map (parted n) units) head (but_last u)
+    pub stands_front : StandsAt o' (flat_map (parted n) units) head (but_last u)
     stands_front = record {
       among = parted_among n units u (but_last u) t.among (first_part n u ends);
       life = t.life;
       own = first_other head (λ e. apart_head (sym e)) ∙ t.own;
       size = size_head ∙ sym front_size;
-      linked = linked_front names links head (but_last u) (n ∷ []) linked_all;
+      linked = linked_front o.names o.next head (but_last u) (n ∷ []) linked_all;
       inside = λ m k.
           let j = t.inside m (in_front m k) in
           (j.0, j.1, first_other j.0 (named_other j.0 m j.1.name (λ e. both_ways _ left_out.0 (ap (λ (x : Name). has (but_last u) x) (sym e) ∙ k))) ∙ j.2);
@@ -149,28 +138,28 @@ module _ {z : Sizes} {names : List (Option Name)} {made : List ℕ} {kinds : ℕ
         in_front : (m : Name) → has (but_last u) m ≡ true → has u m ≡ true
         in_front m k = ends_has n u m ends ∙ (rw k refl)
 
-        front_only : (j : ℕ) (m : Name) → LivesAt names lives j m → j ≢ i → (has (but_last u) m ≡ true) ⊎ (same_name m n ≡ true) → has (but_last u) m ≡ true
+        front_only : (j : ℕ) (m : Name) → LivesAt o.names o.lives j m → j ≢ i → (has (but_last u) m ≡ true) ⊎ (same_name m n ≡ true) → has (but_last u) m ≡ true
         front_only j m a ne (inl k) = k
         front_only j m a ne (inr e) =
             let same : m ≡ n = member_of_one m n (rw e refl) in
             absurd (ne (ns.alone j i n (a.name ∙ ap (λ (x : Name). Some x) same) named_last))
 
     -- the member that left
-    pub stands_last : StandsAt names firsts' sizes' links lives (flat_map (parted n) units) i (n ∷ [])
+    pub stands_last : StandsAt o' (flat_map (parted n) units) i (n ∷ [])
     stands_last = record {
       among = parted_among n units u (n ∷ []) t.among (last_part n u ends);
       life = here.life;
       own = first_own;
       size = size_own;
       linked = (named_last, tt);
-      inside = λ m k. let same : m ≡ n = member_of_one m n k in (i, subst (λ (x : Name). LivesAt names lives i x) (sym same) here, first_own);
+      inside = λ m k. let same : m ≡ n = member_of_one m n k in (i, subst (λ (x : Name). LivesAt o.names o.lives i x) (sym same) here, first_own);
       whole = λ j m a f. dite (ℕ_discrete j i)
-          (λ (e : j ≡ i). let is : ◌≡◌ {A = Option Name} (Some m) (Some n) = sym a.name ∙ ap (name_at names) e ∙ named_last in let same : n ≡ m = cc in subst (λ (x : Name). has (n ∷ []) x ≡ true) same (let t = same_name_refl n in rw t refl))
-          (λ (ne : j ≢ i). let r = us.each j a.life in absurd (apart_head (sym (subst (λ (x : ℕ). first_at firsts x ≡ x) (sym (first_other j ne) ∙ f) r.1.own) ∙ first_here)));
+          (λ (e : j ≡ i). let is : ◌≡◌ {A = Option Name} (Some m) (Some n) = sym a.name ∙ ap (name_at o.names) e ∙ named_last in let same : n ≡ m = cc in subst (λ (x : Name). has (n ∷ []) x ≡ true) same (let t = same_name_refl n in rw t refl))
+          (λ (ne : j ≢ i). let r = us.each j a.life in absurd (apart_head (sym (subst (λ (x : ℕ). first_at o.firsts x ≡ x) (sym (first_other j ne) ∙ f) r.1.own) ∙ first_here)));
     }
 
     -- another unit
-    stands_other : (h : ℕ) (v : List Name) → ends_with n v ≡ false → StandsAt names firsts sizes links lives units h v → StandsAt names firsts' sizes' links lives (flat_map (parted n) units) h v
+    stands_other : (h : ℕ) (v : List Name) → ends_with n v ≡ false → StandsAt o units h v → StandsAt o' (flat_map (parted n) units) h v
     stands_other h v out s = record {
       among = parted_among n units v v s.among (whole_part n v out);
       life = s.life;
@@ -190,15 +179,15 @@ module _ {z : Sizes} {names : List (Option Name)} {made : List ℕ} {kinds : ℕ
         not_in k = other (apart.apart v u n s.among t.among k own)
 
         not_i : h ≢ i
-        not_i e = apart_head (sym e ∙ sym s.own ∙ ap (first_at firsts) e ∙ first_here)
+        not_i e = apart_head (sym e ∙ sym s.own ∙ ap (first_at o.firsts) e ∙ first_here)
 
         not_h : h ≢ head
-        not_h e = other (one_unit apart us head v u (subst (λ (x : ℕ). StandsAt names firsts sizes links lives units x v) e s) t)
+        not_h e = other (one_unit apart us head v u (subst (λ (x : ℕ). StandsAt o units x v) e s) t)
 
-    pub units_left : UnitsShow z names firsts' sizes' links lives (flat_map (parted n) units)
+    pub units_left : UnitsShow z o' (flat_map (parted n) units)
     units_left = record {
-      firsts_len = length-set firsts i i ∙ us.firsts_len;
-      sizes_len = length-set (set sizes i 1) head left ∙ length-set sizes i 1 ∙ us.sizes_len;
+      firsts_len = length-set o.firsts i i ∙ us.firsts_len;
+      sizes_len = length-set (set o.sizes i 1) head left ∙ length-set o.sizes i 1 ∙ us.sizes_len;
       links_len = us.links_len;
       lives_len = us.lives_len;
       in_range = λ j. dite (ℕ_discrete j i) (λ (e : j ≡ i). let f = ap (first_at firsts') e ∙ first_own in omega (arith, below)) (λ (ne : j ≢ i). let f = first_other j ne in omega (arith, us.in_range j));
@@ -207,22 +196,22 @@ module _ {z : Sizes} {names : List (Option Name)} {made : List ℕ} {kinds : ℕ
           (λ (other : j ≢ head). dite (ℕ_discrete j i) (λ (e : j ≡ i). let f = ap (λ (x : ℕ). get_or sizes' x 0) e ∙ size_own in omega arith) (λ (ne : j ≢ i). let f = size_other j ne other in omega (arith, us.small j)));
       named = us.named;
       each = λ j live. dite (ℕ_discrete j i)
-          (λ (e : j ≡ i). (n ∷ [], subst (λ (x : ℕ). StandsAt names firsts' sizes' links lives (flat_map (parted n) units) x (n ∷ [])) (sym (ap (first_at firsts') e ∙ first_own)) stands_last))
+          (λ (e : j ≡ i). (n ∷ [], subst (λ (x : ℕ). StandsAt o' (flat_map (parted n) units) x (n ∷ [])) (sym (ap (first_at firsts') e ∙ first_own)) stands_last))
           (λ (ne : j ≢ i). at_first j ne (us.each j live));
       all = λ w a. let r = among_parted n units w a in pick w r.0 r.1 (which_part n r.0 w r.2);
     }
       where
         New : ℕ → List Name → Type 0
-        New h v = StandsAt names firsts' sizes' links lives (flat_map (parted n) units) h v
+        New h v = StandsAt o' (flat_map (parted n) units) h v
 
-        at_first : (j : ℕ) → j ≢ i → (v : List Name) × StandsAt names firsts sizes links lives units (first_at firsts j) v → (v : List Name) × New (first_at firsts' j) v
+        at_first : (j : ℕ) → j ≢ i → (v : List Name) × StandsAt o units (first_at o.firsts j) v → (v : List Name) × New (first_at firsts' j) v
         at_first j ne (v, s) = go (ends_with n v) refl
           where
             go : (b : Bool) → ends_with n v ≡ b → (v : List Name) × New (first_at firsts' j) v
-            go false out = (v, subst (λ (x : ℕ). New x v) (sym (first_other j ne)) (stands_other (first_at firsts j) v out s))
+            go false out = (v, subst (λ (x : ℕ). New x v) (sym (first_other j ne)) (stands_other (first_at o.firsts j) v out s))
             go true is =
                 let same : v ≡ u = apart.apart v u n s.among t.among (ends_own n v is) own in
-                let h : first_at firsts j ≡ head = one_head ns us (first_at firsts j) head u (subst (λ (x : List Name). StandsAt names firsts sizes links lives units (first_at firsts j) x) same s) t in
+                let h : first_at o.firsts j ≡ head = one_head ns us (first_at o.firsts j) head u (subst (λ (x : List Name). StandsAt o units (first_at o.firsts j) x) same s) t in
                 (but_last u, subst (λ (x : ℕ). New x (but_last u)) (sym (first_other j ne ∙ h)) stands_front)
 
         pick : (w v : List Name) → Among units v → ((ends_with n v ≡ true) × ((but_last v ≡ w) ⊎ (n ∷ [] ≡ w))) ⊎ ((ends_with n v ≡ false) × (v ≡ w)) → (h : ℕ) × New h w
@@ -233,21 +222,20 @@ module _ {z : Sizes} {names : List (Option Name)} {made : List ℕ} {kinds : ℕ
         pick w v a (inr (out, same)) = let r = us.all v a in (r.0, subst (λ (x : List Name). New r.0 x) same (stands_other r.0 v out r.1))
 
     -- removed units lie as before
-    pub gone_left : {waiting : List ℕ} {removals : List Removal} {lasts : List (List Name)} → GoneShow z names firsts sizes links waiting lives removals lasts → GoneShow z names firsts' sizes' links waiting lives removals lasts
+    pub gone_left : {waiting : List ℕ} {removals : List Removal} {lasts : List (List Name)} → GoneShow z o waiting removals lasts → GoneShow z o' waiting removals lasts
     gone_left {waiting} {removals} {lasts} g = record {
       waiting_len = g.waiting_len;
-      distinct = g.distinct;
-      each = λ j e. let r = g.each j e in (r.0, subst (λ (x : ℕ). LiesAt names firsts' sizes' links waiting lives removals lasts x r.0) (sym (first_other j (not_live j e))) (lies (first_at firsts j) r.0 r.1));
+      each = λ j e. let r = g.each j e in (r.0, subst (λ (x : ℕ). LiesAt o' waiting removals lasts x r.0) (sym (first_other j (not_live j e))) (lies (first_at o.firsts j) r.0 r.1));
       all = λ v m a e still. let r = g.all v m a e still in (r.0, lies r.0 v r.1);
     }
       where
-        not_live : (j : ℕ) → is_gone (life_at lives j) ≡ true → j ≢ i
-        not_live j e same = let live : life_at lives j ≡ Live = ap (life_at lives) same ∙ here.life in let wrong : false ≡ true = ap is_gone (sym live) ∙ e in cc
+        not_live : (j : ℕ) → is_gone (life_at o.lives j) ≡ true → j ≢ i
+        not_live j e same = let live : life_at o.lives j ≡ Live = ap (life_at o.lives) same ∙ here.life in let wrong : false ≡ true = ap is_gone (sym live) ∙ e in cc
 
-        not_at_head : (j : ℕ) → is_gone (life_at lives j) ≡ true → j ≢ head
-        not_at_head j e same = let live : life_at lives j ≡ Live = ap (life_at lives) same ∙ t.life in let wrong : false ≡ true = ap is_gone (sym live) ∙ e in cc
+        not_at_head : (j : ℕ) → is_gone (life_at o.lives j) ≡ true → j ≢ head
+        not_at_head j e same = let live : life_at o.lives j ≡ Live = ap (life_at o.lives) same ∙ t.life in let wrong : false ≡ true = ap is_gone (sym live) ∙ e in cc
 
-        lies : (h : ℕ) (v : List Name) → LiesAt names firsts sizes links waiting lives removals lasts h v → LiesAt names firsts' sizes' links waiting lives removals lasts h v
+        lies : (h : ℕ) (v : List Name) → LiesAt o waiting removals lasts h v → LiesAt o' waiting removals lasts h v
         lies h v l = record {
           among = l.among;
           life = l.life;

@@ -7,8 +7,6 @@ use Rattle.std.proofs.Math.Nat.{lt_of_not-le, mul-le-mul_right}
 use Rattle.std.proofs.lemmas.Bool.{eqb-true, eqb-false}
 use Rattle.std.proofs.lemmas.List.{length-set, get_or-set_same, get_or-set_other, get_or_read}
 use Rattle.world_model.specs.Sizes.{Sizes, item_count}
-use Rattle.world_model.specs.NameLists.{members}
-use Rattle.world_model.specs.World.{Removal}
 use Rattle.heap_plain.specs.Types.{Name}
 use Rattle.heap_plain.specs.declared.life.Life.{Life}
 use Rattle.heap_plain.specs.declared.life.Life.TheVariants.{Free, Live}
@@ -16,7 +14,7 @@ use Rattle.heap_plain.specs.Parts.{name_at, life_at}
 use Rattle.heap_plain.specs.Filling.{FilledAt}
 use Rattle.heap_plain.specs.Stacks.{popped, CanPop}
 use Rattle.world_model.specs.Engines.{IsOfLane}
-use Rattle.heap_plain.specs.Sections.{FreeShows, free_at, spare_at}
+use Rattle.heap_plain.specs.Stocking.{FreeShows, free_at, spare_at}
 
 -- ---- indexes of lanes
 
@@ -57,7 +55,7 @@ where_is at (suc count) i = dite (ℕ_discrete i (at count)) (λ (e : i ≡ at c
 
 -- ---- popping
 
-module _ {z : Sizes} {names : List (Option Name)} {lives : List Life} {free spare : List ℕ} {units : List (List Name)} {removals : List Removal} (f : FreeShows z names lives free spare units removals)
+module _ {z : Sizes} {names : List (Option Name)} {lives : List Life} {free spare : List ℕ} {used : ℕ → ℕ} (f : FreeShows z names lives free spare used)
     (l count : ℕ) (lane : l < z.lanes) (room : count ≤ spare_at spare l) where
   abbrev top : ℕ
   top = l * z.quota + spare_at spare l
@@ -114,10 +112,10 @@ module _ {z : Sizes} {names : List (Option Name)} {lives : List Life} {free spar
       absurd (omega (arith, own_spare))
 
   -- the stacks after popping, where objects live at the popped indexes
-  pub free_popped : (ns : List (Option Name)) (ls : List Life) (units' : List (List Name)) → FilledAt lives ls at count (λ k. Live) → ((i : ℕ) → ((k : ℕ) → k < count → at k ≢ i) → name_at ns i ≡ name_at names i)
-      → ((k : ℕ) → count_by (λ n. n.lane == k) (members units') ≡ count_by (λ n. n.lane == k) (members units) + cond (l == k) count 0)
-      → FreeShows z ns ls free spare' units' removals
-  free_popped ns ls units' by_life name_out counts = record {
+  pub free_popped : (ns : List (Option Name)) (ls : List Life) (used' : ℕ → ℕ) → FilledAt lives ls at count (λ k. Live) → ((i : ℕ) → ((k : ℕ) → k < count → at k ≢ i) → name_at ns i ≡ name_at names i)
+      → ((k : ℕ) → used' k ≡ used k + cond (l == k) count 0)
+      → FreeShows z ns ls free spare' used'
+  free_popped ns ls used' by_life name_out counts = record {
     free_len = f.free_len;
     spare_len = length-set spare l (spare_at spare l - count) ∙ f.spare_len;
     of_lane = λ k j b less. f.of_lane k j b (was_spare k j less);
@@ -152,10 +150,10 @@ module _ {z : Sizes} {names : List (Option Name)} {lives : List Life} {free spar
               absurd (e.0 (spare_at spare l - 1 - j) few (place (spare_at spare l - 1 - j) few ∙ ap (free_at z free l) turn ∙ ap (λ (x : ℕ). free_at z free x j) (sym own) ∙ there)))
               (λ (h : ¬ (spare_at spare l - count ≤ j)). let lt = lt_of_not-le h in omega (arith, own_spare))
 
-      sum : (k : ℕ) → k < z.lanes → spare_at spare' k + (count_by (λ n. n.lane == k) (members units') + count_by (λ r. r.name.lane == k) removals) ≡ z.quota
+      sum : (k : ℕ) → k < z.lanes → spare_at spare' k + used' k ≡ z.quota
       sum k b = go (l == k) refl
         where
-          go : (t : Bool) → (l == k) ≡ t → spare_at spare' k + (count_by (λ n. n.lane == k) (members units') + count_by (λ r. r.name.lane == k) removals) ≡ z.quota
+          go : (t : Bool) → (l == k) ≡ t → spare_at spare' k + used' k ≡ z.quota
           go true e =
               let own = eqb-true l k e in
               let bit : cond {A = ℕ} (l == k) count 0 ≡ count = ap (λ (x : Bool). cond {A = ℕ} x count 0) e in
@@ -169,12 +167,12 @@ module _ {z : Sizes} {names : List (Option Name)} {lives : List Life} {free spar
 -- ---- what the code reads
 
 -- the number of a lane's free indexes
-pub spare_read : {z : Sizes} {names : List (Option Name)} {lives : List Life} {free spare : List ℕ} {units : List (List Name)} {removals : List Removal} → FreeShows z names lives free spare units removals
+pub spare_read : {z : Sizes} {names : List (Option Name)} {lives : List Life} {free spare : List ℕ} {used : ℕ → ℕ} → FreeShows z names lives free spare used
     → (l now : ℕ) → l < z.lanes → now ≡ get_or spare l now → now ≡ spare_at spare l
 spare_read {spare} f l now lane read = get_or_read spare l now (omega (arith, f.spare_len)) read 0
 
 -- a lane's stack gives so many indexes
-pub pops : {z : Sizes} {names : List (Option Name)} {lives : List Life} {free spare : List ℕ} {units : List (List Name)} {removals : List Removal} → FreeShows z names lives free spare units removals
+pub pops : {z : Sizes} {names : List (Option Name)} {lives : List Life} {free spare : List ℕ} {used : ℕ → ℕ} → FreeShows z names lives free spare used
     → (l count now quota size : ℕ) (stack : List ℕ) → l < z.lanes → now ≡ get_or spare l now → quota ≡ z.quota → size ≡ item_count z → stack ≡ free → count ≤ now → CanPop stack (l * quota + now) count size
 pops {z} {free} {spare} f l count now quota size stack lane read quota_is size_is stack_is enough =
     let is = spare_read f l now lane read in

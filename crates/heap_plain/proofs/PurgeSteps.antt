@@ -9,81 +9,57 @@ use Rattle.std.proofs.lemmas.Bool.{eqb-true, eqb-false}
 use Rattle.std.proofs.lemmas.Bool.Decides.{nat_tests}
 use Rattle.std.proofs.lemmas.List.{length-set, get_or-set_same, get_or-set_other, get_or-take, length-take-le, take_more, take_more_set, drop_more, drop_all, drop-take, drop-set-lt}
 use Rattle.world_model.specs.Sizes.{Sizes, item_count}
-use Rattle.world_model.specs.NameLists.{same_name, has, all_different, first_member}
-use Rattle.world_model.specs.World.{World, Removal, Removed as AtRemoved, Begun as AtBegun, Finished as AtFinished, is_at, polls_of, destruction_order}
-use Rattle.world_model.specs.State.{State, Marks, Slicing, Collecting}
-use Rattle.world_model.specs.Next.{next, polled, run}
-use Rattle.world_model.specs.Histories.{MayBy, LegalFrom}
+use Rattle.world_model.specs.NameLists.{same_name, has, members, first_member}
+use Rattle.world_model.specs.World.{World, Removal, Removed as AtRemoved, Begun as AtBegun, Finished as AtFinished, is_at, live_count, polls_of, destruction_order}
+use Rattle.world_model.specs.State.{State}
+use Rattle.world_model.specs.Next.{polled, at_stage}
+use Rattle.world_model.specs.Histories.{MayBy, Legal, LegalFrom, state_of}
 use Rattle.world_model.specs.Calls.{by}
 use Rattle.world_model.proofs.ListFacts.{Among, among_filter_test}
-use Rattle.world_model.proofs.NameFacts.{same_name_true, same_name_refl}
+use Rattle.world_model.proofs.NameFacts.{same_name_true, same_name_refl, has_among, among_has, among_members}
+use Rattle.world_model.proofs.Counts.{count-cons}
+use Rattle.world_model.proofs.Sound.{IsSound, sound}
 use Rattle.world_model.proofs.Rounds.{in_removals_at, one_stage, is_at-at_stage_same, is_at-at_stage_other, is_at-polled}
-use Rattle.world_model.proofs.Queues.{IsQueue, in_order, queue_begin, queue_begun, queue_ask, queue_refused, queue_agreed, queue_least}
-use Rattle.heap_plain.specs.Types.{Name, Phase, Idle, Gathering, Collector}
+use Rattle.world_model.proofs.Queues.{IsQueue, in_order, queue_begin, queue_begun, queue_ask, queue_refused, queue_agreed, queue_least, unit_in_order}
+use Rattle.heap_plain.specs.Types.{Name, Phase, Idle, Gathering, Collector, Entry}
 use Rattle.heap_plain.specs.Types.act
 use Rattle.heap_plain.specs.declared.life.Life.{Life}
 use Rattle.heap_plain.specs.declared.life.Life.TheVariants.{Free, Begun, Finished}
 use Rattle.heap_plain.specs.Parts.{Parts, name_at, life_at, first_at, is_gone, stage_of}
 use Rattle.heap_plain.specs.Purging.{turned, next_poll, finished_unit, asked_acts}
-use Rattle.heap_plain.specs.Sections.{Distinct, AreLinked, RemovedShow, removal_at, GoneShow, LiesAt, OrderShows, QueueShows, AreNamed, ReadyAt, gone_world, todo_of, ring_of, at_end, still_there}
-use Rattle.heap_plain.specs.Plain.{Shows, calm}
+use Rattle.heap_plain.specs.Lists.{Distinct}
+use Rattle.heap_plain.specs.Units.{AreLinked}
+use Rattle.heap_plain.specs.Destroying.{RemovedShow, removal_at, GoneShow, LiesAt, OrderShows, QueueShows, AreNamed, ReadyAt, gone_world, todo_of, ring_of, at_end, still_there}
+use Rattle.heap_plain.specs.Plain.{ShowsWorld, Shows}
 use Rattle.heap_plain.proofs.GarbageSteps.{garbage_fewer}
-use Rattle.heap_plain.proofs.WorldFacts.{differs, has_among, among_has}
-use Rattle.heap_plain.proofs.NewNames.{among_members}
+use Rattle.heap_plain.proofs.WorldFacts.{differs, different_distinct}
+use Rattle.heap_plain.proofs.Counting.{count_alike}
 use Rattle.heap_plain.proofs.Cells.{cells_less}
 use Rattle.heap_plain.proofs.Queueing.{named_append, named_first, named_none, all_begun}
-use Rattle.heap_plain.proofs.SliceSteps.{count_cons}
-use Rattle.heap_plain.proofs.SweepSteps.{distinct_different, name_among}
-use Rattle.heap_plain.proofs.Gathering.{same_unit, distinct_unit, in_order_of}
-use Rattle.heap_plain.proofs.Restaging.{SameLives, lives_same, lives_set, gone_below, units_lives, roots_lives, held_lives, free_lives, changed, count_changed, there_changed, removed_changed, gone_changed, gone_index}
+use Rattle.heap_plain.proofs.SweepSteps.{name_among}
+use Rattle.heap_plain.proofs.Gathering.{same_unit, distinct_unit}
+use Rattle.heap_plain.proofs.Restaging.{SameLives, lives_same, lives_set, gone_below, units_lives, free_lives, changed, count_stays, there_changed, removed_changed, gone_changed, gone_index}
 
 -- ---- the vectors after a step
 
--- the state with other removals
-abbrev with_removals : State → List Removal → Marks → (ℕ → Slicing) → Collecting → State
-with_removals s rs marks slices collector = record { world = record (s.world) { removals = rs }; marks = marks; frames = s.frames; slices = slices; collector = collector }
-
-purged_shows : {z : Sizes} {p : Parts} {s : State} {ls : List Life} {ps ws order : List ℕ} {listed begun from kept : ℕ} {done : Option ℕ} {rs : List Removal} {marks : Marks} {slices : ℕ → Slicing} {collector : Collecting}
-    → Shows z p s → p.phase ≡ Idle → SameLives p.lives ls → RemovedShow z p.names ls ps p.left p.swept s.world.phase rs s.world.found s.world.swept
-    → GoneShow z p.names p.firsts p.sizes p.next ws ls rs s.world.last_removed → ((lane : ℕ) → count_by (λ r. r.name.lane == lane) rs ≡ count_by (λ r. r.name.lane == lane) s.world.removals)
-    → OrderShows z order listed begun from kept → QueueShows p.names order listed begun from kept done rs s.world.last_removed s.world.found collector.asked
-    → collector.agreed ≡ None → collector.steps ≡ 0
-    → Shows z (record p { lives = ls; polls = ps; waiting = ws; order = order; listed = listed; begun = begun; from = from; kept = kept; done = done }) (with_removals s rs marks slices collector)
-purged_shows k idle same removed gone counts order queue agreed steps = record {
-  phase = k.phase;
-  frames = k.frames;
-  names = k.names;
-  units = units_lives same k.units;
-  distinct = k.distinct;
-  roots = roots_lives same k.roots;
-  held = held_lives same k.held;
-  work = k.work;
-  idle = k.idle;
-  marks = λ e. absurd (let a = idle in cc);
-  roots_marked = λ e. absurd (let a = idle in cc);
-  kinds = k.kinds;
-  cells = cells_less (λ i n a. record { name = a.name; life = same.was_live i a.life }) (λ i n slot t m there below e a. record { name = a.name; life = same.live t a.life }) k.cells;
-  black = λ e. absurd (let a = idle in cc);
-  removed = removed;
-  gone = gone;
-  order = order;
-  gathers = λ e. absurd (let a = idle in cc);
-  queue = λ e. queue;
-  free = free_lives same counts k.free;
-  none_agreed = agreed;
-  none_asked = λ ne. absurd (ne idle);
-  no_steps = steps;
+purged_shows : {z : Sizes} {p : Parts} {w : World} {kept fresh black : List Name} {was asked : Option Name} {ls : List Life} {ps ws order : List ℕ} {listed begun from kept_now : ℕ} {done : Option ℕ} {rs : List Removal}
+    → ShowsWorld z p w kept fresh black was → p.phase ≡ Idle → SameLives p.lives ls → RemovedShow z p.names ls ps p.left p.swept p.phase rs w.found w.swept
+    → GoneShow z (record (p.objects) { lives = ls }) ws rs w.last_removed → ((lane : ℕ) → count_by (λ r. r.name.lane == lane) rs ≡ count_by (λ r. r.name.lane == lane) w.removals)
+    → OrderShows z order listed begun from kept_now → QueueShows p.names order listed begun from kept_now done rs w.last_removed w.found asked
+    → ShowsWorld z (record p { objects = record (p.objects) { lives = ls }; ends = record (p.ends) { order = order; listed = listed; begun = begun; from = from; kept = kept_now; polls = ps; waiting = ws; done = done } }) (record w { removals = rs }) kept fresh black asked
+purged_shows {w = w} k idle same removed gone counts order queue = record {
+  gate = k.gate;
+  objects = record { names = k.names; units = units_lives _ same k.units };
+  rows = record {
+    kinds = k.kinds;
+    cells = cells_less (λ i n a. record { name = a.name; life = same.was_live i a.life }) (λ i n slot t m there e a. record { name = a.name; life = same.live t a.life }) k.cells;
+  };
+  roots = k.roots;
   garbage = garbage_fewer (λ i n a. record { name = a.name; life = same.was_live i a.life }) k.garbage;
+  colours = record { work = k.work; idle = k.idle; marks = λ e. absurd (let a = idle in cc) };
+  stock = record { made = k.made; free = free_lives same (λ lane. ap (λ (c : ℕ). live_count w lane + c) (counts lane)) k.free };
+  ends = record { removed = removed; gone = gone; order = order; gathers = λ e. absurd (let a = idle in cc); queue = λ e. queue; none_asked = λ ne. absurd (ne idle) };
 }
-
-pub count_alike : (p q : Name → Bool) (u : List Name) → ((n : Name) → Among u n → p n ≡ q n) → count_by p u ≡ count_by q u
-count_alike p q [] h = refl
-count_alike p q (n ∷ u) h =
-    let rest = count_alike p q u (λ m a. h m (inr a)) in
-    let a = count_cons (λ (m : Name). cond {A = ℕ} (p m) 1 0) n u in
-    let b = count_cons (λ (m : Name). cond {A = ℕ} (q m) 1 0) n u in
-    let same : cond {A = ℕ} (p n) 1 0 ≡ cond {A = ℕ} (q n) 1 0 = ap (λ (x : Bool). cond {A = ℕ} x 1 0) (h n (inl refl)) in
-    omega arith
 
 -- one that passed does not any more
 count_less : (p q : Name → Bool) (n : Name) (u : List Name) → Distinct u → Among u n → p n ≡ true → q n ≡ false → ((m : Name) → same_name n m ≡ false → p m ≡ q m) → count_by q u + 1 ≡ count_by p u
@@ -91,10 +67,10 @@ count_less p q n [] d a passed fails others = absurd a
 count_less p q n (m ∷ u) d a passed fails others = go a (count_less p q n u d.1)
   where
     first : count_by p (m ∷ u) ≡ cond {A = ℕ} (p m) 1 0 + count_by p u
-    first = count_cons (λ (x : Name). cond {A = ℕ} (p x) 1 0) m u
+    first = count-cons p m u
 
     second : count_by q (m ∷ u) ≡ cond {A = ℕ} (q m) 1 0 + count_by q u
-    second = count_cons (λ (x : Name). cond {A = ℕ} (q x) 1 0) m u
+    second = count-cons q m u
 
     go : (m ≡ n) ⊎ Among u n → (Among u n → p n ≡ true → q n ≡ false → ((x : Name) → same_name n x ≡ false → p x ≡ q x) → count_by q u + 1 ≡ count_by p u) → count_by q (m ∷ u) + 1 ≡ count_by p (m ∷ u)
     go (inl e) rest =
@@ -113,7 +89,7 @@ none_count q [] e = refl
 none_count q (n ∷ u) e = go (q n) refl (none_count q u)
   where
     spread : count_by (λ m. not (q m)) (n ∷ u) ≡ cond {A = ℕ} (not (q n)) 1 0 + count_by (λ m. not (q m)) u
-    spread = count_cons (λ (m : Name). cond {A = ℕ} (not (q m)) 1 0) n u
+    spread = count-cons (λ m. not (q m)) n u
 
     go : (b : Bool) → q n ≡ b → (count_by (λ m. not (q m)) u ≡ 0 → list_all q u ≡ true) → (q n && list_all q u) ≡ true
     go true is rest = rw is (rest (omega (arith, spread, e)))
@@ -124,7 +100,7 @@ some_count q [] e = absurd (omega (arith, e))
 some_count q (n ∷ u) e = go (q n) refl (some_count q u)
   where
     spread : count_by (λ m. not (q m)) (n ∷ u) ≡ cond {A = ℕ} (not (q n)) 1 0 + count_by (λ m. not (q m)) u
-    spread = count_cons (λ (m : Name). cond {A = ℕ} (not (q m)) 1 0) n u
+    spread = count-cons (λ m. not (q m)) n u
 
     go : (b : Bool) → q n ≡ b → (0 < count_by (λ m. not (q m)) u → list_all q u ≡ false) → (q n && list_all q u) ≡ false
     go true is rest = let none : cond {A = ℕ} (not (q n)) 1 0 ≡ 0 = ap (λ (b : Bool). cond {A = ℕ} (not b) 1 0) is in rw is (rest (omega (arith, spread, e)))
@@ -171,7 +147,19 @@ turns {z} {names} {order} {ring} listed begun from kept o all h = go (from == be
       empty = λ same. absurd (eqb-false from begun e same);
     }
 
-module _ (z : Sizes) (p : Parts) (s : State) (k : Shows z p (calm s)) (idle : p.phase ≡ Idle) where
+-- a legal history between two steps of destruction, which the vectors show
+pub record IsAmid (z : Sizes) (p : Parts) (h : List Entry) : Type 0 where
+  pub legal : Legal z h
+  pub agreed : (state_of h).collector.agreed ≡ None
+  pub shows : Shows z p (state_of h)
+
+module _ {z : Sizes} {p : Parts} {h : List Entry} (amid : IsAmid z p h) (idle : p.phase ≡ Idle) where
+  abbrev s : State
+  s = state_of h
+
+  abbrev k : Shows z p s
+  k = amid.shows
+
   abbrev w : World
   w = s.world
 
@@ -188,13 +176,17 @@ module _ (z : Sizes) (p : Parts) (s : State) (k : Shows z p (calm s)) (idle : p.
   gathered e = let a = at_idle in cc
 
   removed_idle : RemovedShow z p.names p.lives p.polls p.left p.swept Idle w.removals w.found w.swept
-  removed_idle = subst (λ (phase : Phase). RemovedShow z p.names p.lives p.polls p.left p.swept phase w.removals w.found w.swept) at_idle k.removed
+  removed_idle = subst (λ (phase : Phase). RemovedShow z p.names p.lives p.polls p.left p.swept phase w.removals w.found w.swept) idle k.removed
 
-  removed_back : {ls : List Life} {ps : List ℕ} {rs : List Removal} → RemovedShow z p.names ls ps p.left p.swept Idle rs w.found w.swept → RemovedShow z p.names ls ps p.left p.swept w.phase rs w.found w.swept
-  removed_back {ls} {ps} {rs} r = subst (λ (phase : Phase). RemovedShow z p.names ls ps p.left p.swept phase rs w.found w.swept) (sym at_idle) r
+  removed_back : {ls : List Life} {ps : List ℕ} {rs : List Removal} → RemovedShow z p.names ls ps p.left p.swept Idle rs w.found w.swept → RemovedShow z p.names ls ps p.left p.swept p.phase rs w.found w.swept
+  removed_back {ls} {ps} {rs} r = subst (λ (phase : Phase). RemovedShow z p.names ls ps p.left p.swept phase rs w.found w.swept) (sym idle) r
 
-  removals_different : all_different (map (λ r. r.name) w.removals) ≡ true
-  removals_different = distinct_different _ k.removed.distinct
+  -- what holds of the removed objects of every history
+  known : IsSound s
+  known = sound z h amid.legal
+
+  once : Distinct (members w.last_removed)
+  once = different_distinct _ known.destroying.units_different
 
   -- ---- an object is begun
 
@@ -241,13 +233,13 @@ module _ (z : Sizes) (p : Parts) (s : State) (k : Shows z p (calm s)) (idle : p.
     same_end m = go (same_name n m) refl
       where
         here : at_end rs n ≡ at_end w.removals n
-        here = is_at-at_stage_same w0 n AtBegun AtFinished ∙ sym (one_stage w0 n AtRemoved AtFinished removals_different at_removed refl)
+        here = is_at-at_stage_same w0 n AtBegun AtFinished ∙ sym (one_stage w0 n AtRemoved AtFinished known.destroying.different at_removed refl)
 
         go : (b : Bool) → same_name n m ≡ b → at_end rs m ≡ at_end w.removals m
         go true e = subst (λ (y : Name). at_end rs y ≡ at_end w.removals y) (same_name_true n m e) here
         go false e = is_at-at_stage_other w0 n AtBegun AtFinished m e
 
-    gone' : GoneShow z p.names p.firsts p.sizes p.next p.waiting ls rs w.last_removed
+    gone' : GoneShow z (record (p.objects) { lives = ls }) p.waiting rs w.last_removed
     gone' = gone_changed same k.gone refl (there_changed n (λ r. record r { stage = AtBegun }) (λ r. refl) w.removals)
         (λ head u t. t.waits ∙ count_alike _ _ u (λ m a. ap not (sym (same_end m))))
 
@@ -277,19 +269,18 @@ module _ (z : Sizes) (p : Parts) (s : State) (k : Shows z p (calm s)) (idle : p.
     begin_name = n
 
     pub begin_may : MayBy z s Collector (act.Begun n)
-    begin_may = record { finishes = k.none_agreed; may = record { gathered = gathered; next = (queue_begin queue').0 } }
+    begin_may = record { finishes = amid.agreed; may = record { gathered = gathered; next = (queue_begin queue').0 } }
 
-    pub begin_shows : Shows z (record p { lives = ls; begun = p.begun + 1 }) (calm (next s (record { pass = Collector; act = act.Begun n })))
-    begin_shows = purged_shows k idle same (removed_back removed') gone' (λ lane. count_changed n (λ r. record r { stage = AtBegun }) (λ r. refl) lane w.removals) order'
-        (record {
-          todo = first.1;
-          ring = q.ring ++ n ∷ [];
-          ready = q.ready;
-          todo_at = first.4;
-          ring_at = subst (λ (at : List ℕ). AreNamed p.names at (q.ring ++ n ∷ [])) (sym ring_more) (named_append p.names _ _ _ _ q.ring_at (first.3, tt));
-          ready_at = q.ready_at;
-          queue = (queue_begin queue').1;
-        }) refl refl
+    pub begin_shows : ShowsWorld z (record p { objects = record (p.objects) { lives = ls }; ends = record (p.ends) { begun = p.begun + 1 } }) (at_stage w n AtBegun) s.marks.kept s.marks.fresh s.marks.scanned s.collector.asked
+    begin_shows = purged_shows k idle same (removed_back removed') gone' (λ lane. count_stays n (λ r. record r { stage = AtBegun }) (λ r. refl) lane w.removals) order' record {
+      todo = first.1;
+      ring = q.ring ++ n ∷ [];
+      ready = q.ready;
+      todo_at = first.4;
+      ring_at = subst (λ (at : List ℕ). AreNamed p.names at (q.ring ++ n ∷ [])) (sym ring_more) (named_append p.names _ _ _ _ q.ring_at (first.3, tt));
+      ready_at = q.ready_at;
+      queue = (queue_begin queue').1;
+    }
 
   -- ---- an object is asked
 
@@ -366,11 +357,11 @@ module _ (z : Sizes) (p : Parts) (s : State) (k : Shows z p (calm s)) (idle : p.
 
     polls_known : polls_of w0 m ≡ get_or p.polls y 0
     polls_known = ap (λ (o : Option Removal). option_map_or (λ (r : Removal). r.polls) o 0)
-        (find_named w.removals (removal_at p.lives p.polls y m) k.removed.distinct (k.removed.removed y m asked_first.3 asked_gone))
+        (find_named w.removals (removal_at p.lives p.polls y m) (different_distinct _ known.destroying.different) (k.removed.removed y m asked_first.3 asked_gone))
 
     asked_may : (answer : Bool) → MayBy z s Collector (act.Asked m poll answer)
     asked_may answer = record {
-      finishes = k.none_agreed;
+      finishes = amid.agreed;
       may = record {
         gathered = gathered;
         begun = queue_begun asks';
@@ -393,9 +384,6 @@ module _ (z : Sizes) (p : Parts) (s : State) (k : Shows z p (calm s)) (idle : p.
     removed_polled = removed_changed m (λ r. record r { polls = poll }) (λ r. refl) y k.names removed_idle asked_first.3 (lives_same p.lives) (length-set p.polls y poll)
         (λ i ne. (refl, get_or-set_other p.polls y i poll 0 ne))
         (λ t. record { name = m; stage = stage_of (life_at p.lives y); polls = sym (get_or-set_same p.polls y poll 0 (omega (arith, y_below, k.removed.polls_len))) t })
-
-    same_removals : (lane : ℕ) → count_by (λ r. r.name.lane == lane) polled_rs ≡ count_by (λ r. r.name.lane == lane) w.removals
-    same_removals lane = count_changed m (λ r. record r { polls = poll }) (λ r. refl) lane w.removals
 
     -- ---- it refuses
 
@@ -423,11 +411,11 @@ module _ (z : Sizes) (p : Parts) (s : State) (k : Shows z p (calm s)) (idle : p.
     pub refused_legal : LegalFrom z s (by Collector (asked_acts m poll false))
     refused_legal = (asked_may false, tt)
 
-    pub refused_shows : Shows z (record p { polls = ps; order = order_refused; listed = end; begun = end; from = from + 1; kept = kept + 1 }) (calm (run s (by Collector (asked_acts m poll false))))
+    pub refused_shows : ShowsWorld z (record p { ends = record (p.ends) { order = order_refused; listed = end; begun = end; from = from + 1; kept = kept + 1; polls = ps } }) (polled w m poll) s.marks.kept s.marks.fresh s.marks.scanned (Some m)
     refused_shows = purged_shows k idle (lives_same p.lives) (removed_back removed_polled)
         (gone_changed (lives_same p.lives) k.gone refl (there_changed m (λ r. record r { polls = poll }) (λ r. refl) w.removals)
         (λ head u t. t.waits ∙ count_alike _ _ u (λ n a. ap not (sym (is_at-polled w0 m poll AtFinished n)))))
-        same_removals
+        (λ lane. count_stays m (λ r. record r { polls = poll }) (λ r. refl) lane w.removals)
         (record {
           len = length-set p.order kept y ∙ turn.places.len;
           listed_few = turn.places.listed_few;
@@ -444,14 +432,14 @@ module _ (z : Sizes) (p : Parts) (s : State) (k : Shows z p (calm s)) (idle : p.
           ring_at = subst (λ (at : List ℕ). AreNamed p.names at (asked_first.1 ++ m ∷ [])) (sym ring_refused) (named_append p.names _ _ _ _ asked_first.4 (asked_first.3, tt));
           ready_at = subst (λ (done : Option ℕ). ReadyAt p.names done None) (sym none) tt;
           queue = queue_refused asks' poll;
-        }) refl refl
+        })
 
     -- ---- it agrees
 
     abbrev head : ℕ
     head = first_at p.firsts y
 
-    lies : (u : List Name) × LiesAt p.names p.firsts p.sizes p.next p.waiting p.lives w.removals w.last_removed head u
+    lies : (u : List Name) × LiesAt p.objects p.waiting w.removals w.last_removed head u
     lies = k.gone.each y asked_gone
 
     abbrev unit : List Name
@@ -463,12 +451,12 @@ module _ (z : Sizes) (p : Parts) (s : State) (k : Shows z p (calm s)) (idle : p.
     ordered : Among (destruction_order w0) unit
     ordered =
         let v = among_members (destruction_order w0) m (has_among (in_order w0) m (asks'.order.covered m there)) in
-        let placed = in_order_of w.last_removed w.found v.0 v.1 in
-        let same = same_unit w.last_removed v.0 unit m k.gone.distinct placed.0 lies.1.among (has_among v.0 m v.2) (has_among unit m has_m) in
+        let placed = unit_in_order w.last_removed w.found v.0 v.1 in
+        let same = same_unit w.last_removed v.0 unit m once placed.0 lies.1.among (has_among v.0 m v.2) (has_among unit m has_m) in
         subst (λ (x : List Name). Among (destruction_order w0) x) same v.1
 
     unfinished : at_end w.removals m ≡ false
-    unfinished = one_stage w0 m AtBegun AtFinished removals_different at_begun refl
+    unfinished = one_stage w0 m AtBegun AtFinished known.destroying.different at_begun refl
 
     abbrev agreed_rs : List Removal
     agreed_rs = changed m (λ r. record r { stage = AtFinished }) polled_rs
@@ -480,7 +468,7 @@ module _ (z : Sizes) (p : Parts) (s : State) (k : Shows z p (calm s)) (idle : p.
     as_before n e = is_at-at_stage_other (polled w0 m poll) m AtFinished AtFinished n e ∙ is_at-polled w0 m poll AtFinished n
 
     one_less : (u : List Name) → Among w.last_removed u → has u m ≡ true → count_by (λ n. not (at_end agreed_rs n)) u + 1 ≡ count_by (λ n. not (at_end w.removals n)) u
-    one_less u a e = count_less (λ n. not (at_end w.removals n)) (λ n. not (at_end agreed_rs n)) m u (distinct_unit w.last_removed u k.gone.distinct a) (has_among u m e)
+    one_less u a e = count_less (λ n. not (at_end w.removals n)) (λ n. not (at_end agreed_rs n)) m u (distinct_unit w.last_removed u once a) (has_among u m e)
         (ap not unfinished) (ap not now_finished) (λ n o. ap not (sym (as_before n o)))
 
     abbrev waits : ℕ
@@ -501,11 +489,11 @@ module _ (z : Sizes) (p : Parts) (s : State) (k : Shows z p (calm s)) (idle : p.
     lives_agreed : SameLives p.lives agreed_ls
     lives_agreed = lives_set p.lives y Finished asked_gone refl
 
-    gone_agreed : GoneShow z p.names p.firsts p.sizes p.next ws agreed_ls agreed_rs w.last_removed
+    gone_agreed : GoneShow z (record (p.objects) { lives = agreed_ls }) ws agreed_rs w.last_removed
     gone_agreed = gone_changed lives_agreed k.gone (length-set p.waiting head (waits - 1))
         (λ n. there_changed m (λ r. record r { stage = AtFinished }) (λ r. refl) polled_rs n ∙ there_changed m (λ r. record r { polls = poll }) (λ r. refl) w.removals n) count
       where
-        count : (at : ℕ) (u : List Name) → LiesAt p.names p.firsts p.sizes p.next p.waiting p.lives w.removals w.last_removed at u → get_or ws at 0 ≡ count_by (λ n. not (at_end agreed_rs n)) u
+        count : (at : ℕ) (u : List Name) → LiesAt p.objects p.waiting w.removals w.last_removed at u → get_or ws at 0 ≡ count_by (λ n. not (at_end agreed_rs n)) u
         count at u t = dite (ℕ_discrete at head)
             (λ (e : at ≡ head).
             let has_it = t.whole y m (record { name = asked_first.3; life = asked_gone }) (sym e) in
@@ -543,10 +531,10 @@ module _ (z : Sizes) (p : Parts) (s : State) (k : Shows z p (calm s)) (idle : p.
     pub agreed_legal : LegalFrom z s (by Collector (asked_acts m poll true))
     agreed_legal = (asked_may true, (record { finishes = refl; may = gathered }, tt))
 
-    pub agreed_shows : Shows z (record p { lives = agreed_ls; polls = ps; waiting = ws; listed = end; begun = end; from = from + 1; kept = kept; done = finished_unit head (waits - 1) })
-        (calm (run s (by Collector (asked_acts m poll true))))
+    pub agreed_shows : ShowsWorld z (record p { objects = record (p.objects) { lives = agreed_ls }; ends = record (p.ends) { listed = end; begun = end; from = from + 1; kept = kept; polls = ps; waiting = ws; done = finished_unit head (waits - 1) } })
+        (at_stage (polled w m poll) m AtFinished) s.marks.kept s.marks.fresh s.marks.scanned (Some m)
     agreed_shows = purged_shows k idle lives_agreed (removed_back removed_agreed) gone_agreed
-        (λ lane. count_changed m (λ r. record r { stage = AtFinished }) (λ r. refl) lane polled_rs ∙ same_removals lane)
+        (λ lane. count_stays m (λ r. record r { stage = AtFinished }) (λ r. refl) lane polled_rs ∙ count_stays m (λ r. record r { polls = poll }) (λ r. refl) lane w.removals)
         (record {
           len = turn.places.len;
           listed_few = turn.places.listed_few;
@@ -563,4 +551,4 @@ module _ (z : Sizes) (p : Parts) (s : State) (k : Shows z p (calm s)) (idle : p.
           ring_at = asked_first.4;
           ready_at = ready_now;
           queue = queue_agreed asks' poll unit ordered has_m;
-        }) refl refl
+        })

@@ -6,19 +6,17 @@ use Rattle.std.proofs.Math.Decide.{ℕ_discrete}
 use Rattle.std.proofs.lemmas.Bool.{eqb-true, eqb-false}
 use Rattle.std.proofs.lemmas.List.{length-set, get_or-set_same, get_or-set_other}
 use Rattle.world_model.specs.Sizes.{Sizes, item_count}
-use Rattle.world_model.specs.NameLists.{members}
-use Rattle.world_model.specs.World.{Removal}
 use Rattle.heap_plain.specs.Types.{Name}
 use Rattle.heap_plain.specs.declared.life.Life.{Life}
 use Rattle.heap_plain.specs.declared.life.Life.TheVariants.{Free}
 use Rattle.heap_plain.specs.Parts.{name_at, life_at, is_gone}
 use Rattle.world_model.specs.Engines.{IsOfLane}
-use Rattle.heap_plain.specs.Sections.{FreeShows, free_at, spare_at}
+use Rattle.heap_plain.specs.Stocking.{FreeShows, free_at, spare_at}
 use Rattle.heap_plain.proofs.Popping.{one_lane, same_lane, lane_end, lane_below}
 
-module _ {z : Sizes} {names : List (Option Name)} {lives : List Life} {free spare : List ℕ} {units : List (List Name)} {removals : List Removal} (f : FreeShows z names lives free spare units removals)
+module _ {z : Sizes} {names : List (Option Name)} {lives : List Life} {free spare : List ℕ} {used : ℕ → ℕ} (f : FreeShows z names lives free spare used)
     (l i : ℕ) (lane : l < z.lanes) (of : IsOfLane z l i) (names_len : length names ≡ item_count z) (lives_len : length lives ≡ item_count z) (gone : is_gone (life_at lives i) ≡ true)
-    (removals' : List Removal) (counts : (k : ℕ) → count_by (λ r. r.name.lane == k) removals ≡ count_by (λ r. r.name.lane == k) removals' + cond (l == k) 1 0) where
+    (used' : ℕ → ℕ) (counts : (k : ℕ) → used k ≡ used' k + cond (l == k) 1 0) where
   abbrev n : ℕ
   n = spare_at spare l
 
@@ -83,7 +81,7 @@ module _ {z : Sizes} {names : List (Option Name)} {lives : List Life} {free spar
   apart : (k j : ℕ) → k < z.lanes → j < spare_at spare k → free_at z free k j ≢ i
   apart k j b less e = let free_there : is_gone (life_at lives i) ≡ false = ap is_gone (ap (life_at lives) (sym e) ∙ f.unused k j b less) in absurd cc
 
-  count_now : (k : ℕ) (t : Bool) → (l == k) ≡ t → k < z.lanes → spare_at spare' k + (count_by (λ n. n.lane == k) (members units) + count_by (λ r. r.name.lane == k) removals') ≡ z.quota
+  count_now : (k : ℕ) (t : Bool) → (l == k) ≡ t → k < z.lanes → spare_at spare' k + used' k ≡ z.quota
   count_now k true e b =
       let own = eqb-true l k e in
       let one : cond {A = ℕ} (l == k) 1 0 ≡ 1 = ap (λ (x : Bool). cond {A = ℕ} x 1 0) e in
@@ -94,7 +92,7 @@ module _ {z : Sizes} {names : List (Option Name)} {lives : List Life} {free spar
       let none : cond {A = ℕ} (l == k) 1 0 ≡ 0 = ap (λ (x : Bool). cond {A = ℕ} x 1 0) e in
       omega (arith, f.count k b, counts k, other_spare k (λ same. eqb-false l k e (sym same)))
 
-  pub free_pushed : FreeShows z names' lives' free' spare' units removals'
+  pub free_pushed : FreeShows z names' lives' free' spare' used'
   free_pushed = record {
     free_len = length-set free (l * z.quota + n) i ∙ f.free_len;
     spare_len = length-set spare l (n + 1) ∙ f.spare_len;

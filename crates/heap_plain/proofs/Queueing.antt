@@ -5,7 +5,7 @@ use Rattle.world_model.specs.World.{Removal}
 use Rattle.world_model.proofs.ListFacts.{Among}
 use Rattle.heap_plain.specs.Types.{Name}
 use Rattle.heap_plain.specs.Parts.{name_at}
-use Rattle.heap_plain.specs.Sections.{todo_of, AreNamed, ReadyAt, QueueShows, GatherShows}
+use Rattle.heap_plain.specs.Destroying.{todo_of, AreNamed, ReadyAt, QueueShows, GatherShows}
 
 -- ---- names at indexes
 
@@ -40,7 +40,6 @@ gather_more {names} {ns} keep g = record {
   none_begun = g.none_begun;
   none_done = g.none_done;
   listed_at = named_more names ns keep _ _ g.listed_at;
-  all_there = g.all_there;
 }
 
 -- in a row

@@ -1,92 +1,51 @@
 -- The step of destruction that releases a unit.
-use Rattle.std.proofs.Common.{◌≡◌, ◌≢◌, ℕ, ◌+◌, ◌-◌, ◌<◌, ◌≤◌, ◌^◌, ◌==◌, ◌&&◌, ◌⊎◌, refl, sym, subst, ap, ◌∙◌, inl, inr, arith, Bool, cond, true, false, not, List, [], ◌∷◌, ◌++◌, append-nil, length, map, filter, find, get_or, count_by, Option, Some, None, option_and_then}
+use Rattle.std.proofs.Common.{◌≡◌, ◌≢◌, ℕ, ◌+◌, ◌-◌, ◌<◌, ◌≤◌, ◌^◌, ◌==◌, ◌&&◌, ◌⊎◌, refl, sym, subst, ap, ◌∙◌, inl, inr, arith, Bool, cond, true, false, not, List, [], ◌∷◌, ◌++◌, append-nil, length, filter, get_or, count_by, Option, Some, None}
 use Rattle.std.specs.List.{list_all}
+use Rattle.std.proofs.lemmas.List.{length-map}
 use Rattle.std.proofs.lemmas.List.Sums.{length-filter}
-use Rattle.std.proofs.lemmas.List.Filters.{sum_by-filter_both}
 use Rattle.world_model.specs.Sizes.{Sizes, item_count}
-use Rattle.world_model.specs.NameLists.{same_name, has, members, begins_with, first_member}
-use Rattle.world_model.specs.World.{World, Removal, Begun as AtBegun, Finished as AtFinished, is_at, destruction_order}
+use Rattle.world_model.specs.NameLists.{same_name, has, members, begins_with}
+use Rattle.world_model.specs.World.{World, Removal, Begun as AtBegun, Finished as AtFinished, is_at, destruction_order, occupied}
 use Rattle.world_model.specs.State.{State}
-use Rattle.world_model.specs.Next.{next, released}
-use Rattle.world_model.specs.Histories.{MayBy}
-use Rattle.world_model.proofs.ListFacts.{Among, among_filter, among_filter_test, filter_among}
-use Rattle.world_model.proofs.NameFacts.{same_name_true, same_name_refl}
+use Rattle.world_model.specs.Next.{released}
+use Rattle.world_model.specs.Histories.{MayBy, Legal, state_of}
+use Rattle.world_model.specs.Follows.{freed_by}
+use Rattle.world_model.proofs.ListFacts.{Among, among_filter, among_filter_test, filter_among, among_test, test_among}
+use Rattle.world_model.proofs.NameFacts.{same_name_true, has_among, among_has}
+use Rattle.world_model.proofs.Counts.{names_of, next_total}
 use Rattle.world_model.proofs.Rounds.{in_removals_at, one_stage, is_at-released}
-use Rattle.world_model.proofs.Queues.{IsQueue, queue_begun, queue_release}
-use Rattle.heap_plain.specs.Types.{Name, Phase, Idle, Collector}
+use Rattle.world_model.proofs.Queues.{IsQueue, queue_begun, queue_release, ready_unit, unit_in_order, names_left, all_at}
+use Rattle.world_model.proofs.Sound.{IsSound, sound}
+use Rattle.world_model.proofs.Removals.{held_lives_holds, named_lives_holds}
+use Rattle.heap_plain.specs.Types.{Name, Phase, Idle, Collector, Entry}
 use Rattle.heap_plain.specs.Types.act
 use Rattle.heap_plain.specs.declared.life.Life.{Life}
 use Rattle.heap_plain.specs.declared.life.Life.TheVariants.{Free, Live}
-use Rattle.heap_plain.specs.Parts.{Parts, name_at, life_at, is_gone, stage_of}
+use Rattle.heap_plain.specs.Parts.{Parts, Objects, name_at, life_at, is_gone, stage_of}
 use Rattle.heap_plain.specs.Listing.{chained}
 use Rattle.heap_plain.specs.Purging.{Stocks, give_all, CanGive}
-use Rattle.heap_plain.specs.Sections.{Distinct, NamesShow, UnitsShow, StandsAt, LivesAt, AreLinked, RootsShow, rooted_at, HeldShow, RemovedShow, removal_at, removal_of, GoneAt, GoneShow, LiesAt, KindsShow, CellsShow, QueueShows, AreNamed, ReadyAt, FreeShows, gone_world, todo_of, at_end, still_there}
-use Rattle.heap_plain.specs.Plain.{Shows, calm}
+use Rattle.heap_plain.specs.Lists.{Distinct}
+use Rattle.heap_plain.specs.Units.{NamesShow, UnitsShow, StandsAt, LivesAt, AreLinked}
+use Rattle.heap_plain.specs.Roots.{RootsShow, rooted_at}
+use Rattle.heap_plain.specs.Cells.{KindsShow, CellsShow}
+use Rattle.heap_plain.specs.Destroying.{RemovedShow, removal_at, GoneAt, GoneShow, LiesAt, QueueShows, AreNamed, ReadyAt, gone_world, todo_of, at_end, still_there}
+use Rattle.heap_plain.specs.Plain.{ShowsWorld, Shows}
 use Rattle.heap_plain.proofs.GarbageSteps.{garbage_fewer}
 use Rattle.heap_plain.proofs.Cells.{cells_less}
-use Rattle.heap_plain.proofs.WorldFacts.{has_among, among_has, among_test, test_among, no_longer}
+use Rattle.heap_plain.proofs.WorldFacts.{no_longer, different_distinct}
+use Rattle.heap_plain.proofs.Counting.{occupied_next, count_all, count_alike}
 use Rattle.heap_plain.proofs.Fillings.{Lists-same}
-use Rattle.heap_plain.proofs.Standing.{name_below, links_same}
+use Rattle.heap_plain.proofs.Standing.{name_below, links_same, lives_at}
 use Rattle.heap_plain.proofs.Listings.{linked_member}
-use Rattle.heap_plain.proofs.CommitSteps.{count_removals}
-use Rattle.heap_plain.proofs.SliceSteps.{count_cons}
-use Rattle.heap_plain.proofs.SweepSteps.{distinct_different, name_among, among_name}
-use Rattle.heap_plain.proofs.Gathering.{first_among, filter_one, same_unit, distinct_unit, in_order_of}
+use Rattle.heap_plain.proofs.BeginSteps.{left_idle}
+use Rattle.heap_plain.proofs.SweepSteps.{name_among, among_name}
+use Rattle.heap_plain.proofs.Gathering.{first_among, filter_one, same_unit, distinct_unit}
 use Rattle.heap_plain.proofs.Queueing.{all_begun}
-use Rattle.heap_plain.proofs.PurgeSteps.{count_alike}
 use Rattle.heap_plain.proofs.Emptying.{Emptying, Emptied, Empties, empties}
 use Rattle.heap_plain.proofs.Restaging.{gone_index}
+use Rattle.heap_plain.proofs.PurgeSteps.{IsAmid}
 
 -- ---- lists
-
-found_some : {A : Type 0} (p : A → Bool) (xs : List A) (x : A) → find p xs ≡ Some x → Among xs x × (p x ≡ true)
-found_some p [] x e = absurd cc
-found_some p (y ∷ xs) x e = go (p y) refl (found_some p xs x) e
-  where
-    go : (b : Bool) → p y ≡ b → (find p xs ≡ Some x → Among xs x × (p x ≡ true)) → cond b (Some y) (find p xs) ≡ Some x → ((y ≡ x) ⊎ Among xs x) × (p x ≡ true)
-    go true is rest e = let same : y ≡ x = cc in (inl same, ap p (sym same) ∙ is)
-    go false is rest e = let found = rest e in (inr found.0, found.1)
-
--- the unit that is to be released
-unit_ready : (p : List Name → Bool) (order : List (List Name)) (h : Name) → Some h ≡ option_and_then first_member (find p order) → (u : List Name) × Among order u × (p u ≡ true) × (begins_with h u ≡ true)
-unit_ready p order h e = go (find p order) refl e
-  where
-    begins : (u : List Name) → Some h ≡ first_member u → begins_with h u ≡ true
-    begins [] e = absurd cc
-    begins (n ∷ u) e = let same : h ≡ n = cc in ap (same_name h) (sym same) ∙ same_name_refl h
-
-    go : (r : Option (List Name)) → find p order ≡ r → Some h ≡ option_and_then first_member r → (u : List Name) × Among order u × (p u ≡ true) × (begins_with h u ≡ true)
-    go None f e = absurd cc
-    go (Some u) f e = let found = found_some p order u f in (u, found.0, found.1, begins u e)
-
-all_at : (p : Name → Bool) (u : List Name) (n : Name) → list_all p u ≡ true → Among u n → p n ≡ true
-all_at p [] n h a = absurd a
-all_at p (m ∷ u) n h (inl e) = ap p (sym e) ∙ first (p m) (list_all p u) h
-  where
-    first : (a b : Bool) → (a && b) ≡ true → a ≡ true
-    first true b h = refl
-    first false b h = absurd cc
-all_at p (m ∷ u) n h (inr a) = all_at p u n (second (p m) (list_all p u) h) a
-  where
-    second : (a b : Bool) → (a && b) ≡ true → b ≡ true
-    second true b h = h
-    second false b h = absurd cc
-
-linked_first : (names : List (Option Name)) (links : List ℕ) (i : ℕ) (n : Name) (u : List Name) → AreLinked names links i u → begins_with n u ≡ true → name_at names i ≡ Some n
-linked_first names links i n [] l h = absurd cc
-linked_first names links i n (m ∷ u) l h = l.0 ∙ ap (λ (x : Name). Some x) (sym (same_name_true n m h))
-
--- what is left of the removed objects
-abbrev without_names : List Name → List Removal → List Removal
-without_names u rs = filter (λ r. not (has u r.name)) rs
-
-distinct_names : (q : Removal → Bool) (rs : List Removal) → Distinct (map (λ r. r.name) rs) → Distinct (map (λ r. r.name) (filter q rs))
-distinct_names q [] d = tt
-distinct_names q (r ∷ rs) d = go (q r) (distinct_names q rs d.1)
-  where
-    go : (b : Bool) → Distinct (map (λ s. s.name) (filter q rs)) → Distinct (map (λ s. s.name) (cond b (r ∷ filter q rs) (filter q rs)))
-    go true rest = ((λ a. let s = among_name (filter q rs) r.name a in d.0 (subst (λ (n : Name). Among (map (λ s. s.name) rs) n) s.2 (name_among rs s.0 (among_filter q rs s.0 s.1)))), rest)
-    go false rest = rest
 
 distinct_kept : (f : Name → Bool) (xs : List Name) → Distinct xs → Distinct (filter f xs)
 distinct_kept f [] d = tt
@@ -103,32 +62,9 @@ same_count f xs ys d e there back =
     let down = no_longer (filter f ys) (filter f xs) (distinct_kept f ys e) (λ n a. filter_among f xs n (back n (among_filter f ys n a)) (among_filter_test f ys n a)) in
     omega (arith, length-filter f xs, length-filter f ys)
 
-count_names : (f : Name → Bool) (rs : List Removal) → count_by (λ r. f r.name) rs ≡ count_by f (map (λ r. r.name) rs)
-count_names f [] = refl
-count_names f (r ∷ rs) =
-    let rest = count_names f rs in
-    let a = count_cons (λ (s : Removal). cond {A = ℕ} (f s.name) 1 0) r rs in
-    let b = count_cons (λ (n : Name). cond {A = ℕ} (f n) 1 0) r.name (map (λ s. s.name) rs) in
-    omega arith
-
--- the removed objects are those of the unit and the others
-split_count : (f : Name → Bool) (u : List Name) (rs : List Removal) → Distinct u → Distinct (map (λ r. r.name) rs) → ((n : Name) → Among u n → still_there rs n ≡ true)
-    → count_by (λ r. f r.name) rs ≡ count_by f u + count_by (λ r. f r.name) (without_names u rs)
-split_count f u rs d e there =
-    let both = sum_by-filter_both (λ (r : Removal). has u r.name) (λ r. not (has u r.name)) (λ r. refl) (λ r. cond {A = ℕ} (f r.name) 1 0) rs in
-    let named = count_names f (filter (λ r. has u r.name) rs) in
-    let same = same_count f (map (λ r. r.name) (filter (λ r. has u r.name) rs)) u (distinct_names (λ r. has u r.name) rs e) d
-    (λ n a. let r = among_name (filter (λ r. has u r.name) rs) n a in subst (λ (m : Name). Among u m) r.2 (has_among u r.0.name (among_filter_test (λ r. has u r.name) rs r.0 r.1)))
-    (λ n a.
-    let r = test_among (λ r. same_name n r.name) rs (there n a) in
-    let is = same_name_true n r.0.name r.2 in
-    subst (λ (m : Name). Among (map (λ s. s.name) (filter (λ s. has u s.name) rs)) m) (sym is)
-    (name_among (filter (λ s. has u s.name) rs) r.0 (filter_among (λ s. has u s.name) rs r.0 r.1 (among_has u r.0.name (subst (λ (m : Name). Among u m) is a))))) in
-    omega arith
-
-all_count : {A : Type 0} (xs : List A) → count_by (λ x. true) xs ≡ length xs
-all_count [] = refl
-all_count (x ∷ xs) = let rest = all_count xs in let c = count_cons (λ (y : _). 1) x xs in omega arith
+linked_first : (names : List (Option Name)) (links : List ℕ) (i : ℕ) (n : Name) (u : List Name) → AreLinked names links i u → begins_with n u ≡ true → name_at names i ≡ Some n
+linked_first names links i n [] l h = absurd cc
+linked_first names links i n (m ∷ u) l h = l.0 ∙ ap (λ (x : Name). Some x) (sym (same_name_true n m h))
 
 -- names that stay
 named_less : (names ns : List (Option Name)) (u : List Name) → ((i : ℕ) (n : Name) → name_at names i ≡ Some n → has u n ≡ false → name_at ns i ≡ Some n)
@@ -140,7 +76,13 @@ named_less names ns u keep (i ∷ at) (n ∷ of) out h = (keep i n h.0 (out n (i
 
 -- ---- a unit is released
 
-module _ (z : Sizes) (p : Parts) (s : State) (k : Shows z p (calm s)) (idle : p.phase ≡ Idle) (all : p.listed ≤ p.begun) (head : ℕ) (ready : p.done ≡ Some head) (few_items : item_count z < 2 ^ 32) where
+module _ {z : Sizes} {p : Parts} {h : List Entry} (amid : IsAmid z p h) (idle : p.phase ≡ Idle) (all : p.listed ≤ p.begun) (head : ℕ) (ready : p.done ≡ Some head) (few_items : item_count z < 2 ^ 32) where
+  abbrev s : State
+  s = state_of h
+
+  abbrev k : Shows z p s
+  k = amid.shows
+
   abbrev w : World
   w = s.world
 
@@ -149,6 +91,13 @@ module _ (z : Sizes) (p : Parts) (s : State) (k : Shows z p (calm s)) (idle : p.
 
   abbrev q : QueueShows p.names p.order p.listed p.begun p.from p.kept p.done w.removals w.last_removed w.found s.collector.asked
   q = k.queue idle
+
+  -- what holds of the removed objects of every history
+  known : IsSound s
+  known = sound z h amid.legal
+
+  once : Distinct (members w.last_removed)
+  once = different_distinct _ known.destroying.units_different
 
   no_todo : q.todo ≡ []
   no_todo = all_begun p.names p.order p.listed p.begun q.todo (omega (arith, k.order.len, k.order.listed_few)) all q.todo_at
@@ -167,7 +116,7 @@ module _ (z : Sizes) (p : Parts) (s : State) (k : Shows z p (calm s)) (idle : p.
   waits = subst (λ (r : Option Name). IsQueue w0 s.collector.asked [] q.ring r) first.1 (subst (λ (todo : List Name). IsQueue w0 s.collector.asked todo q.ring q.ready) no_todo q.queue)
 
   pub to_go : (u : List Name) × Among (destruction_order w0) u × (list_all (is_at w0 AtFinished) u ≡ true) × (begins_with n u ≡ true)
-  to_go = unit_ready (list_all (is_at w0 AtFinished)) (destruction_order w0) n waits.ready_is.first
+  to_go = ready_unit (list_all (is_at w0 AtFinished)) (destruction_order w0) n waits.ready_is.first
 
   abbrev u : List Name
   u = to_go.0
@@ -179,19 +128,19 @@ module _ (z : Sizes) (p : Parts) (s : State) (k : Shows z p (calm s)) (idle : p.
   there m a = in_removals_at w0 AtFinished m (finished m a)
 
   in_units : Among w.last_removed u
-  in_units = (in_order_of w.last_removed w.found u to_go.1).0
+  in_units = (unit_in_order w.last_removed w.found u to_go.1).0
 
   first_in : Among u n
   first_in = first_among n u to_go.3
 
-  lies : LiesAt p.names p.firsts p.sizes p.next p.waiting p.lives w.removals w.last_removed head u
+  lies : LiesAt p.objects p.waiting w.removals w.last_removed head u
   lies =
       let r = k.gone.all u n in_units (among_has u n first_in) (there n first_in) in
       let same = k.names.alone r.0 head n (linked_first p.names p.next r.0 n u r.1.linked to_go.3) first.2 in
-      subst (λ (i : ℕ). LiesAt p.names p.firsts p.sizes p.next p.waiting p.lives w.removals w.last_removed i u) same r.1
+      subst (λ (i : ℕ). LiesAt p.objects p.waiting w.removals w.last_removed i u) same r.1
 
   distinct_u : Distinct u
-  distinct_u = distinct_unit w.last_removed u k.gone.distinct in_units
+  distinct_u = distinct_unit w.last_removed u once in_units
 
   pub size_is : get_or p.sizes head 0 ≡ length u
   size_is = lies.size
@@ -201,22 +150,37 @@ module _ (z : Sizes) (p : Parts) (s : State) (k : Shows z p (calm s)) (idle : p.
   rs = (released w n).removals
 
   names_are : members (filter (begins_with n) w.last_removed) ≡ u
-  names_are = ap members (filter_one n w.last_removed u k.gone.distinct in_units to_go.3) ∙ append-nil u
+  names_are = ap members (filter_one n w.last_removed u once in_units to_go.3) ∙ append-nil u
 
-  rest_is : without_names u w.removals ≡ rs
-  rest_is = ap (λ (us : List Name). without_names us w.removals) (sym names_are)
-
-  counted : (f : Name → Bool) → count_by (λ r. f r.name) w.removals ≡ count_by f u + count_by (λ r. f r.name) rs
-  counted f = split_count f u w.removals distinct_u k.removed.distinct there ∙ ap (λ (xs : List Removal). count_by f u + count_by (λ r. f r.name) xs) rest_is
+  rest_is : filter (λ r. not (has u r.name)) w.removals ≡ rs
+  rest_is = ap (λ (us : List Name). filter (λ r. not (has us r.name)) w.removals) (sym names_are)
 
   at_idle : w.phase ≡ Idle
   at_idle = sym k.phase ∙ idle
 
+  -- the removed objects are those of the unit and the others
+  pub release_may : MayBy z s Collector (act.Released n)
+  release_may = record {
+    finishes = amid.agreed;
+    may = record { gathered = λ e. let a = at_idle in absurd (let b = e in cc); begun = queue_begun waits; next = sym waits.ready_is.first };
+  }
+
+  -- it releases the members of the unit
+  freed_is : (f : Name → Bool) → count_by f (freed_by w (act.Released n)) ≡ count_by f u
+  freed_is f = ap (λ (us : List Name). count_by f (names_of (filter (λ r. has us r.name) w.removals))) names_are
+      ∙ same_count f _ u (different_distinct _ (names_left (λ r. has u r.name) w.removals known.destroying.different)) distinct_u
+      (λ m a. let r = among_name (filter (λ r. has u r.name) w.removals) m a in subst (λ (x : Name). Among u x) r.2 (has_among u r.0.name (among_filter_test (λ r. has u r.name) w.removals r.0 r.1)))
+      (λ m a.
+      let r = test_among (λ r. same_name m r.name) w.removals (there m a) in
+      let is = same_name_true m r.0.name r.2 in
+      subst (λ (x : Name). Among (names_of (filter (λ s. has u s.name) w.removals)) x) (sym is)
+      (name_among (filter (λ s. has u s.name) w.removals) r.0 (filter_among (λ s. has u s.name) w.removals r.0 r.1 (among_has u r.0.name (subst (λ (x : Name). Among u x) is a)))))
+
   left_is : p.left ≡ length u + length rs
   left_is =
-      let idle_left = subst (λ (phase : Phase). RemovedShow z p.names p.lives p.polls p.left p.swept phase w.removals w.found w.swept) at_idle k.removed in
-      let c = counted (λ m. true) in
-      omega (arith, idle_left.left_is, all_count w.removals, all_count u, all_count rs)
+      let total = next_total z s Collector (act.Released n) release_may known.destroying.unmarked (λ m. true) in
+      let idle_left : p.left ≡ length w.removals = left_idle p.phase w.removals w.found p.left k.removed.left_is idle in
+      omega (arith, freed_is (λ m. true), count_all (λ (m : Name). true) u (λ m. refl), count_all (λ (m : Name). true) (names_of rs) (λ m. refl), count_all (λ (m : Name). true) (names_of w.removals) (λ m. refl), length-map rs (λ (r : Removal). r.name), length-map w.removals (λ (r : Removal). r.name))
 
   pub size_few : get_or p.sizes head 0 ≤ p.left
   size_few = omega (arith, left_is, size_is)
@@ -226,9 +190,22 @@ module _ (z : Sizes) (p : Parts) (s : State) (k : Shows z p (calm s)) (idle : p.
   abbrev before : Stocks
   before = record { names = p.names; lives = p.lives; free = p.free; spare = p.spare }
 
-  emptying : Emptying z before p.next head u w.units rs
+  -- how many objects of a lane are left
+  abbrev used : ℕ → ℕ
+  used = occupied (released w n)
+
+  emptying : Emptying z before p.next head u used
   emptying = record {
-    free = free_split;
+    free = record {
+      free_len = k.free.free_len;
+      spare_len = k.free.spare_len;
+      of_lane = k.free.of_lane;
+      unused = k.free.unused;
+      once = k.free.once;
+      all = k.free.all;
+      nameless = k.free.nameless;
+      count = λ lane b. omega (arith, k.free.count lane b, occupied_next z h (record { pass = Collector; act = act.Released n }) amid.legal release_may lane, freed_is (λ m. m.lane == lane));
+    };
     by_name = k.names.items;
     by_life = k.units.lives_len;
     linked = lies.linked;
@@ -237,32 +214,9 @@ module _ (z : Sizes) (p : Parts) (s : State) (k : Shows z p (calm s)) (idle : p.
     alone = k.names.alone;
     gone = λ j m h a. gone_index k.names k.removed j m h (there m (has_among u m a));
   }
-    where
-      counts : (lane : ℕ) → count_by (λ r. r.name.lane == lane) (map removal_of u ++ rs) ≡ count_by (λ r. r.name.lane == lane) w.removals
-      counts lane = spread u ∙ ap (λ (c : ℕ). c + count_by (λ r. r.name.lane == lane) rs) (count_removals lane u) ∙ sym (counted (λ m. m.lane == lane))
-        where
-          spread : (v : List Name) → count_by (λ r. r.name.lane == lane) (map removal_of v ++ rs) ≡ count_by (λ r. r.name.lane == lane) (map removal_of v) + count_by (λ r. r.name.lane == lane) rs
-          spread [] = omega arith
-          spread (m ∷ v) =
-              let rest = spread v in
-              let a = count_cons (λ (r : Removal). cond {A = ℕ} (r.name.lane == lane) 1 0) (removal_of m) (map removal_of v ++ rs) in
-              let b = count_cons (λ (r : Removal). cond {A = ℕ} (r.name.lane == lane) 1 0) (removal_of m) (map removal_of v) in
-              omega arith
 
-      free_split : FreeShows z p.names p.lives p.free p.spare w.units (map removal_of u ++ rs)
-      free_split = record {
-        free_len = k.free.free_len;
-        spare_len = k.free.spare_len;
-        of_lane = k.free.of_lane;
-        unused = k.free.unused;
-        once = k.free.once;
-        all = k.free.all;
-        nameless = k.free.nameless;
-        count = λ lane b. omega (arith, k.free.count lane b, counts lane);
-      }
-
-  emptied : Empties z before p.next head u w.units rs
-  emptied = empties z before p.next head u w.units rs few_items emptying
+  emptied : Empties z before p.next head u used
+  emptied = empties z before p.next head u used few_items emptying
 
   pub release_can : (j : ℕ) → j < get_or p.sizes head 0 → CanGive z.quota (give_all z.quota before p.next head j) (chained p.next head j)
   release_can j b = emptied.can j (omega (arith, size_is))
@@ -275,10 +229,14 @@ module _ (z : Sizes) (p : Parts) (s : State) (k : Shows z p (calm s)) (idle : p.
   abbrev t : Stocks
   t = give_all z.quota before p.next head (get_or p.sizes head 0)
 
-  end : Emptied z before t u w.units rs
-  end = subst (λ (size : ℕ). Emptied z before (give_all z.quota before p.next head size) u w.units rs) (sym size_is) emptied.end
+  end : Emptied z before t u used
+  end = subst (λ (size : ℕ). Emptied z before (give_all z.quota before p.next head size) u used) (sym size_is) emptied.end
 
   -- ---- the sections
+
+  -- the objects after it
+  abbrev o' : Objects
+  o' = record (p.objects) { names = t.names; lives = t.lives }
 
   same_has : (m : Name) → (has u m ≡ true) ⊎ (has u m ≡ false)
   same_has m = go (has u m) refl
@@ -342,16 +300,14 @@ module _ (z : Sizes) (p : Parts) (s : State) (k : Shows z p (calm s)) (idle : p.
   used_live : (i : ℕ) → life_at t.lives i ≡ Live → life_at p.lives i ≡ Live
   used_live i e = sym (was_used i (λ f. let a = e in cc)).0 ∙ e
 
-  names' : NamesShow z t.names p.made w.kinds
+  names' : NamesShow z t.names w.kinds
   names' = record {
-    counts = k.names.counts;
     items = end.by_name;
     places = λ i m h. k.names.places i m (was_named i m h).0;
     alone = λ i j m g h. k.names.alone i j m (was_named i m g).0 (was_named j m h).0;
-    few_names = k.names.few_names;
   }
 
-  stands' : (at : ℕ) (v : List Name) → StandsAt p.names p.firsts p.sizes p.next p.lives w.units at v → StandsAt t.names p.firsts p.sizes p.next t.lives w.units at v
+  stands' : (at : ℕ) (v : List Name) → StandsAt p.objects w.units at v → StandsAt o' w.units at v
   stands' at v x =
       let member = k.units.named at (λ f. let a = x.life in absurd (let b = f in cc)) in
       record {
@@ -365,7 +321,7 @@ module _ (z : Sizes) (p : Parts) (s : State) (k : Shows z p (calm s)) (idle : p.
         whole = λ i m a f. x.whole i m (lived i m a) f;
       }
 
-  units' : UnitsShow z t.names p.firsts p.sizes p.next t.lives w.units
+  units' : UnitsShow z o' w.units
   units' = record {
     firsts_len = k.units.firsts_len;
     sizes_len = k.units.sizes_len;
@@ -381,10 +337,9 @@ module _ (z : Sizes) (p : Parts) (s : State) (k : Shows z p (calm s)) (idle : p.
     all = λ v a. let r = k.units.all v a in (r.0, stands' r.0 v r.1);
   }
 
-  roots' : RootsShow z t.names t.lives p.roots w.rooted w.strong
+  roots' : RootsShow z t.names p.roots w.rooted w.strong
   roots' = record {
     bits = Lists-same p.roots (item_count z) (λ i. rooted_at w.rooted (name_at p.names i)) _ k.roots.bits (λ i. same i (name_at p.names i) refl);
-    living = λ m e. let j = k.roots.living m e in (j.0, still_lives j.0 m j.1);
     no_strong = k.roots.no_strong;
   }
     where
@@ -392,7 +347,7 @@ module _ (z : Sizes) (p : Parts) (s : State) (k : Shows z p (calm s)) (idle : p.
       not_rooted m a = go (w.rooted m) refl
         where
           go : (b : Bool) → w.rooted m ≡ b → b ≡ false
-          go true e = let j = k.roots.living m e in absurd (clash m a (live_out j.0 m j.1.name j.1.life))
+          go true e = let j = lives_at k.units m ((named_lives_holds z h amid.legal).rooted m e) in absurd (clash m a (live_out j.0 m j.1.name j.1.life))
           go false e = refl
 
       same : (i : ℕ) (o : Option Name) → name_at p.names i ≡ o → rooted_at w.rooted (name_at t.names i) ≡ rooted_at w.rooted (name_at p.names i)
@@ -403,14 +358,11 @@ module _ (z : Sizes) (p : Parts) (s : State) (k : Shows z p (calm s)) (idle : p.
           go (inl a) = ap (rooted_at w.rooted) (end.out i m e a).0 ∙ sym (not_rooted m a) ∙ sym (ap (rooted_at w.rooted) e)
           go (inr a) = ap (rooted_at w.rooted) ((stays i m e a).0 ∙ sym e)
 
-  held' : HeldShow t.names t.lives w.opened s.frames
-  held' = record { living = λ lane m e. let j = k.held.living lane m e in (j.0, still_lives j.0 m j.1); closed = k.held.closed; paid = k.held.paid; whole = k.held.whole }
-
   kinds' : KindsShow z t.names p.kinds w.kinds
   kinds' = record { len = k.kinds.len; each = λ i m h. k.kinds.each i m (was_named i m h).0; fit = k.kinds.fit }
 
   cells' : CellsShow z t.names t.lives p.kinds p.targets p.plains w.kinds w.cell w.plain
-  cells' = cells_less (λ i m a. lived i m a) (λ i m slot j v there below e a. still_lives j v a) k.cells
+  cells' = cells_less (λ i m a. lived i m a) (λ i m slot j v there e a. still_lives j v a) k.cells
 
   -- ---- removed objects
 
@@ -429,8 +381,8 @@ module _ (z : Sizes) (p : Parts) (s : State) (k : Shows z p (calm s)) (idle : p.
       flip false e = refl
       flip true e = absurd cc
 
-  removed' : RemovedShow z t.names t.lives p.polls (p.left - get_or p.sizes head 0) p.swept w.phase rs w.found w.swept
-  removed' = subst (λ (phase : Phase). RemovedShow z t.names t.lives p.polls (p.left - get_or p.sizes head 0) p.swept phase rs w.found w.swept) (sym at_idle) record {
+  removed' : RemovedShow z t.names t.lives p.polls (p.left - get_or p.sizes head 0) p.swept p.phase rs w.found w.swept
+  removed' = subst (λ (phase : Phase). RemovedShow z t.names t.lives p.polls (p.left - get_or p.sizes head 0) p.swept phase rs w.found w.swept) (sym idle) record {
     swept_is = k.removed.swept_is;
     swept_few = k.removed.swept_few;
     polls_len = k.removed.polls_len;
@@ -444,16 +396,13 @@ module _ (z : Sizes) (p : Parts) (s : State) (k : Shows z p (calm s)) (idle : p.
         let j = k.removed.gone r b.0 in
         let o = stays j.0 r.name j.1 b.1 in
         (j.0, o.0, ap is_gone o.1 ∙ j.2);
-    distinct = distinct_names _ w.removals k.removed.distinct;
-    fresh = λ e. absurd cc;
     found_is = λ e. absurd cc;
     left_is = omega (arith, left_is, size_is);
     left_few = λ e. absurd cc;
-    none_left = λ e. absurd cc;
   }
 
   abbrev Was : ℕ → List Name → Type 0
-  Was at v = LiesAt p.names p.firsts p.sizes p.next p.waiting p.lives w.removals w.last_removed at v
+  Was at v = LiesAt p.objects p.waiting w.removals w.last_removed at v
 
   -- a unit with an object that is not released is another one
   other_unit : (v : List Name) (m x : Name) → Among w.last_removed v → has v m ≡ true → has u m ≡ false → has v x ≡ true → has u x ≡ false
@@ -462,13 +411,13 @@ module _ (z : Sizes) (p : Parts) (s : State) (k : Shows z p (calm s)) (idle : p.
       go : (has u x ≡ true) ⊎ (has u x ≡ false) → has u x ≡ false
       go (inr d) = d
       go (inl d) =
-          let same = same_unit w.last_removed v u x k.gone.distinct a in_units (has_among v x c) (has_among u x d) in
+          let same = same_unit w.last_removed v u x once a in_units (has_among v x c) (has_among u x d) in
           absurd (clash m (ap (λ (y : List Name). has y m) (sym same) ∙ b) out)
 
   still_gone : (i : ℕ) (m : Name) → GoneAt p.names p.lives i m → has u m ≡ false → GoneAt t.names t.lives i m
   still_gone i m a out = let o = stays i m a.name out in record { name = o.0; life = ap is_gone o.1 ∙ a.life }
 
-  lies' : (at : ℕ) (v : List Name) (m : Name) → Was at v → has v m ≡ true → has u m ≡ false → LiesAt t.names p.firsts p.sizes p.next p.waiting t.lives rs w.last_removed at v
+  lies' : (at : ℕ) (v : List Name) (m : Name) → Was at v → has v m ≡ true → has u m ≡ false → LiesAt o' p.waiting rs w.last_removed at v
   lies' at v m x b out = record {
     among = x.among;
     life =
@@ -486,10 +435,9 @@ module _ (z : Sizes) (p : Parts) (s : State) (k : Shows z p (calm s)) (idle : p.
       same_end : (y : Name) → has u y ≡ false → at_end rs y ≡ at_end w.removals y
       same_end y e = is_at-released w0 n AtFinished y ∙ ap (λ (us : List Name). not (has us y) && at_end w.removals y) names_are ∙ ap (λ (b : Bool). not b && at_end w.removals y) e
 
-  gone' : GoneShow z t.names p.firsts p.sizes p.next p.waiting t.lives rs w.last_removed
+  gone' : GoneShow z o' p.waiting rs w.last_removed
   gone' = record {
     waiting_len = k.gone.waiting_len;
-    distinct = k.gone.distinct;
     each = λ i g.
         let o = gone_was i g in
         let was : is_gone (life_at p.lives i) ≡ true = ap is_gone (sym o.0) ∙ g in
@@ -513,7 +461,7 @@ module _ (z : Sizes) (p : Parts) (s : State) (k : Shows z p (calm s)) (idle : p.
       go (inr d) = d
       go (inl d) =
           let at = among_filter_test (is_at w0 AtBegun) _ m (subst (λ (ns : List Name). Among ns m) waits.ring_is a) in
-          let not_at = one_stage w0 m AtFinished AtBegun (distinct_different _ k.removed.distinct) (finished m (has_among u m d)) refl in
+          let not_at = one_stage w0 m AtFinished AtBegun known.destroying.different (finished m (has_among u m d)) refl in
           absurd (let b = at in cc)
 
   queue' : QueueShows t.names p.order p.listed p.begun p.from p.kept None rs w.last_removed w.found s.collector.asked
@@ -527,43 +475,21 @@ module _ (z : Sizes) (p : Parts) (s : State) (k : Shows z p (calm s)) (idle : p.
     queue = queue_release waits;
   }
 
-  pub release_may : MayBy z s Collector (act.Released n)
-  release_may = record {
-    finishes = k.none_agreed;
-    may = record { gathered = λ e. let a = at_idle in absurd (let b = e in cc); begun = queue_begun waits; next = sym waits.ready_is.first };
-  }
-
-  pub release_shows : Shows z (record p { names = t.names; lives = t.lives; free = t.free; spare = t.spare; left = p.left - get_or p.sizes head 0; done = None }) (calm (next s (record { pass = Collector; act = act.Released n })))
+  pub release_shows : ShowsWorld z (record p { objects = o'; stock = record (p.stock) { free = t.free; spare = t.spare }; ends = record (p.ends) { left = p.left - get_or p.sizes head 0; done = None } }) (released w n) s.marks.kept s.marks.fresh s.marks.scanned s.collector.asked
   release_shows = record {
-    phase = k.phase;
-    frames = k.frames;
-    names = names';
-    units = units';
-    distinct = k.distinct;
+    gate = k.gate;
+    objects = record { names = names'; units = units' };
+    rows = record { kinds = kinds'; cells = cells' };
     roots = roots';
-    held = held';
-    work = k.work;
-    idle = k.idle;
-    marks = λ e. absurd (let a = idle in cc);
-    roots_marked = λ e. absurd (let a = idle in cc);
-    kinds = kinds';
-    cells = cells';
-    black = λ e. absurd (let a = idle in cc);
-    removed = removed';
-    gone = gone';
-    order = k.order;
-    gathers = λ e. absurd (let a = idle in cc);
-    queue = λ e. queue';
-    free = end.free;
-    none_agreed = refl;
-    none_asked = λ ne. absurd (ne idle);
-    no_steps = refl;
     garbage = garbage_fewer lived k.garbage;
+    colours = record { work = k.work; idle = k.idle; marks = λ e. absurd (let a = idle in cc) };
+    stock = record { made = k.made; free = end.free };
+    ends = record { removed = removed'; gone = gone'; order = k.order; gathers = λ e. absurd (let a = idle in cc); queue = λ e. queue'; none_asked = λ ne. absurd (ne idle) };
   }
 
   -- what a frame holds keeps its place
   pub still_held : (lane : ℕ) (m : Name) → has (s.frames lane).held m ≡ true → (i : ℕ) → name_at p.names i ≡ Some m → name_at t.names i ≡ Some m
-  still_held lane m e i h =
-      let j = k.held.living lane m e in
-      let here = k.names.alone i j.0 m h j.1.name in
-      (stays i m h (live_out i m h (ap (life_at p.lives) here ∙ j.1.life))).0
+  still_held lane m e i there =
+      let j = lives_at k.units m (held_lives_holds z h amid.legal lane m e).0 in
+      let here = k.names.alone i j.0 m there j.1.name in
+      (stays i m there (live_out i m there (ap (life_at p.lives) here ∙ j.1.life))).0

@@ -9,14 +9,20 @@ use Rattle.world_model.specs.Sizes.{Sizes}
 use Rattle.world_model.specs.NameLists.{same_name}
 use Rattle.world_model.specs.World.{Removal}
 use Rattle.world_model.specs.State.{Frame}
-use Rattle.world_model.proofs.ListFacts.{Among}
+use Rattle.world_model.proofs.ListFacts.{Among, test_among}
 use Rattle.world_model.proofs.NameFacts.{same_name_true, same_name_refl}
+use Rattle.world_model.proofs.Counts.{count_names}
+use Rattle.world_model.proofs.Queues.{names_kept}
 use Rattle.heap_plain.specs.Types.{Name, Kind, Pass, Phase, Idle}
 use Rattle.heap_plain.specs.declared.life.Life.{Life}
 use Rattle.heap_plain.specs.declared.life.Life.TheVariants.{Free, Live}
-use Rattle.heap_plain.specs.Parts.{name_at, life_at, is_gone, stage_of}
-use Rattle.heap_plain.specs.Sections.{Distinct, NamesShow, UnitsShow, StandsAt, LivesAt, RootsShow, HeldShow, RemovedShow, removal_at, GoneShow, LiesAt, FreeShows, free_at, at_end, still_there}
-use Rattle.heap_plain.proofs.WorldFacts.{differs, test_among}
+use Rattle.heap_plain.specs.Parts.{Objects, name_at, life_at, is_gone, stage_of}
+use Rattle.heap_plain.specs.Lists.{Distinct}
+use Rattle.heap_plain.specs.Units.{NamesShow, UnitsShow, StandsAt, LivesAt}
+use Rattle.heap_plain.specs.Roots.{RootsShow}
+use Rattle.heap_plain.specs.Stocking.{FreeShows, free_at}
+use Rattle.heap_plain.specs.Destroying.{RemovedShow, removal_at, GoneShow, LiesAt, at_end, still_there}
+use Rattle.heap_plain.proofs.WorldFacts.{differs}
 use Rattle.heap_plain.proofs.Standing.{life_below}
 use Rattle.heap_plain.proofs.SliceSteps.{count_cons}
 
@@ -61,22 +67,23 @@ lives_set lives x v g h = record {
     other : (i : ℕ) → i ≢ x → life_at (set lives x v) i ≡ life_at lives i
     other i ne = get_or-set_other lives x i v Free ne
 
-module _ {names : List (Option Name)} {lives ls : List Life} (same : SameLives lives ls) where
-  lives_there : (i : ℕ) (n : Name) → LivesAt names lives i n → LivesAt names ls i n
-  lives_there i n a = record { name = a.name; life = same.live i a.life }
+module _ (o : Objects) {ls : List Life} (same : SameLives o.lives ls) where
+  -- the objects with these lives
+  abbrev o' : Objects
+  o' = record o { lives = ls }
 
-  stands_lives : {firsts sizes links : List ℕ} {units : List (List Name)} (head : ℕ) (u : List Name) → StandsAt names firsts sizes links lives units head u → StandsAt names firsts sizes links ls units head u
+  stands_lives : {units : List (List Name)} (head : ℕ) (u : List Name) → StandsAt o units head u → StandsAt o' units head u
   stands_lives head u t = record {
     among = t.among;
     life = same.live head t.life;
     own = t.own;
     size = t.size;
     linked = t.linked;
-    inside = λ n e. let j = t.inside n e in (j.0, lives_there j.0 n j.1, j.2);
+    inside = λ n e. let j = t.inside n e in (j.0, record { name = j.1.name; life = same.live j.0 j.1.life }, j.2);
     whole = λ i n a f. t.whole i n (record { name = a.name; life = same.was_live i a.life }) f;
   }
 
-  pub units_lives : {z : Sizes} {firsts sizes links : List ℕ} {units : List (List Name)} → UnitsShow z names firsts sizes links lives units → UnitsShow z names firsts sizes links ls units
+  pub units_lives : {z : Sizes} {units : List (List Name)} → UnitsShow z o units → UnitsShow z o' units
   units_lives us = record {
     firsts_len = us.firsts_len;
     sizes_len = us.sizes_len;
@@ -89,28 +96,17 @@ module _ {names : List (Option Name)} {lives ls : List Life} (same : SameLives l
     all = λ u a. let r = us.all u a in (r.0, stands_lives r.0 u r.1);
   }
 
-  pub roots_lives : {z : Sizes} {roots : List Bool} {rooted : Name → Bool} {strong : ℕ → ℕ → Option Name} → RootsShow z names lives roots rooted strong → RootsShow z names ls roots rooted strong
-  roots_lives rs = record {
-    bits = rs.bits;
-    living = λ n e. let j = rs.living n e in (j.0, lives_there j.0 n j.1);
-    no_strong = rs.no_strong;
-  }
-
-  pub held_lives : {opened : List Pass} {frames : ℕ → Frame} → HeldShow names lives opened frames → HeldShow names ls opened frames
-  held_lives hs = record { living = λ lane n e. let j = hs.living lane n e in (j.0, lives_there j.0 n j.1); closed = hs.closed; paid = hs.paid; whole = hs.whole }
-
-  pub free_lives : {z : Sizes} {free spare : List ℕ} {units : List (List Name)} {removals rs : List Removal} → ((lane : ℕ) → count_by (λ r. r.name.lane == lane) rs ≡ count_by (λ r. r.name.lane == lane) removals)
-      → FreeShows z names lives free spare units removals → FreeShows z names ls free spare units rs
-  free_lives {z} {free} counts f = record {
-    free_len = f.free_len;
-    spare_len = f.spare_len;
-    of_lane = f.of_lane;
-    unused = λ lane k b e. same.free (free_at z free lane k) (f.unused lane k b e);
-    once = f.once;
-    all = λ lane i b o e. f.all lane i b o (same.was_free i e);
-    nameless = λ i e. f.nameless i (same.was_free i e);
-    count = λ lane b. omega (arith, f.count lane b, counts lane);
-  }
+pub free_lives : {z : Sizes} {names : List (Option Name)} {lives ls : List Life} {free spare : List ℕ} {used used' : ℕ → ℕ} → SameLives lives ls → ((lane : ℕ) → used' lane ≡ used lane) → FreeShows z names lives free spare used → FreeShows z names ls free spare used'
+free_lives {z} {free = free} same counts f = record {
+  free_len = f.free_len;
+  spare_len = f.spare_len;
+  of_lane = f.of_lane;
+  unused = λ lane k b e. same.free (free_at z free lane k) (f.unused lane k b e);
+  once = f.once;
+  all = λ lane i b p e. f.all lane i b p (same.was_free i e);
+  nameless = λ i e. f.nameless i (same.was_free i e);
+  count = λ lane b. omega (arith, f.count lane b, counts lane);
+}
 
 -- ---- a removal that changes
 
@@ -125,18 +121,8 @@ module _ (n : Name) (f : Removal → Removal) (keeps : (r : Removal) → (f r).n
   one_name : (r : Removal) → (one r).name ≡ r.name
   one_name r = cond_both (same_name n r.name) (f r) r (λ s. s.name ≡ r.name) (λ e. keeps r) (λ e. refl)
 
-  pub names_changed : (rs : List Removal) → map (λ r. r.name) (changed n f rs) ≡ map (λ r. r.name) rs
-  names_changed [] = refl
-  names_changed (r ∷ rs) = λ t. one_name r t ∷ names_changed rs t
-
-  pub count_changed : (lane : ℕ) (rs : List Removal) → count_by (λ r. r.name.lane == lane) (changed n f rs) ≡ count_by (λ r. r.name.lane == lane) rs
-  count_changed lane [] = refl
-  count_changed lane (r ∷ rs) =
-      let rest = count_changed lane rs in
-      let a = count_cons (λ (s : Removal). cond {A = ℕ} (s.name.lane == lane) 1 0) (one r) (changed n f rs) in
-      let b = count_cons (λ (s : Removal). cond {A = ℕ} (s.name.lane == lane) 1 0) r rs in
-      let same : cond {A = ℕ} ((one r).name.lane == lane) 1 0 ≡ cond {A = ℕ} (r.name.lane == lane) 1 0 = ap (λ (m : Name). cond {A = ℕ} (m.lane == lane) 1 0) (one_name r) in
-      omega arith
+  pub count_stays : (lane : ℕ) (rs : List Removal) → count_by (λ r. r.name.lane == lane) (changed n f rs) ≡ count_by (λ r. r.name.lane == lane) rs
+  count_stays lane rs = count_names (λ m. m.lane == lane) (changed n f rs) ∙ ap (count_by (λ m. m.lane == lane)) (names_kept n f keeps rs) ∙ sym (count_names (λ m. m.lane == lane) rs)
 
   pub there_changed : (rs : List Removal) (m : Name) → still_there (changed n f rs) m ≡ still_there rs m
   there_changed [] m = refl
@@ -152,8 +138,8 @@ module _ (n : Name) (f : Removal → Removal) (keeps : (r : Removal) → (f r).n
   changed_among (s ∷ rs) r (inl e) = (s, inl refl, e)
   changed_among (s ∷ rs) r (inr a) = let t = changed_among rs r a in (t.0, inr t.1, t.2)
 
-  pub removed_changed : {z : Sizes} {names : List (Option Name)} {made : List ℕ} {kinds : ℕ → List Kind} {lives ls : List Life} {polls ps : List ℕ} {left swept looked : ℕ} {removals : List Removal} {found : List Name} (x : ℕ)
-      → NamesShow z names made kinds → RemovedShow z names lives polls left swept Idle removals found looked → name_at names x ≡ Some n → SameLives lives ls → length ps ≡ length polls
+  pub removed_changed : {z : Sizes} {names : List (Option Name)} {kinds : ℕ → List Kind} {lives ls : List Life} {polls ps : List ℕ} {left swept looked : ℕ} {removals : List Removal} {found : List Name} (x : ℕ)
+      → NamesShow z names kinds → RemovedShow z names lives polls left swept Idle removals found looked → name_at names x ≡ Some n → SameLives lives ls → length ps ≡ length polls
       → ((i : ℕ) → i ≢ x → (life_at ls i ≡ life_at lives i) × (get_or ps i 0 ≡ get_or polls i 0)) → f (removal_at lives polls x n) ≡ removal_at ls ps x n
       → RemovedShow z names ls ps left swept Idle (changed n f removals) found looked
   removed_changed {names = names} {lives = lives} {ls} {polls} {ps} {removals = removals} x ns k at same len others now = record {
@@ -166,12 +152,9 @@ module _ (n : Name) (f : Removal → Removal) (keeps : (r : Removal) → (f r).n
         let j = k.gone s.0 s.1 in
         let name : s.0.name ≡ r.name = sym (one_name s.0) ∙ ap (λ (y : Removal). y.name) s.2 in
         (j.0, j.1 ∙ ap (λ (m : Name). Some m) name, same.gone j.0 j.2);
-    distinct = subst (λ (xs : List Name). Distinct xs) (sym (names_changed removals)) k.distinct;
-    fresh = λ e. absurd cc;
     found_is = λ e. absurd cc;
     left_is = k.left_is ∙ sym (length-map removals one);
     left_few = λ e. absurd cc;
-    none_left = λ e. absurd cc;
   }
     where
       removed : (i : ℕ) (m : Name) → name_at names i ≡ Some m → is_gone (life_at ls i) ≡ true → Among (changed n f removals) (removal_at ls ps i m)
@@ -196,18 +179,15 @@ module _ (n : Name) (f : Removal → Removal) (keeps : (r : Removal) → (f r).n
 
 -- ---- removed units
 
-pub gone_changed : {z : Sizes} {names : List (Option Name)} {firsts sizes links waiting ws : List ℕ} {lives ls : List Life} {removals rs : List Removal} {units : List (List Name)} → SameLives lives ls
-    → GoneShow z names firsts sizes links waiting lives removals units → length ws ≡ length waiting → ((m : Name) → still_there rs m ≡ still_there removals m)
-    → ((head : ℕ) (u : List Name) → LiesAt names firsts sizes links waiting lives removals units head u → get_or ws head 0 ≡ count_by (λ m. not (at_end rs m)) u)
-    → GoneShow z names firsts sizes links ws ls rs units
-gone_changed {names = names} {firsts} {sizes} {links} {waiting} {ws} {lives} {ls} {removals} {rs} {units} same g len still waits = record {
+pub gone_changed : {z : Sizes} {o : Objects} {waiting ws : List ℕ} {ls : List Life} {removals rs : List Removal} {units : List (List Name)} → SameLives o.lives ls → GoneShow z o waiting removals units → length ws ≡ length waiting
+    → ((m : Name) → still_there rs m ≡ still_there removals m) → ((head : ℕ) (u : List Name) → LiesAt o waiting removals units head u → get_or ws head 0 ≡ count_by (λ m. not (at_end rs m)) u) → GoneShow z (record o { lives = ls }) ws rs units
+gone_changed {o = o} {waiting} {ws} {ls} {removals} {rs} {units} same g len still waits = record {
   waiting_len = len ∙ g.waiting_len;
-  distinct = g.distinct;
   each = λ i e. let r = g.each i (same.was_gone i e) in (r.0, lies _ r.0 r.1);
   all = λ u n a e t. let r = g.all u n a e (sym (still n) ∙ t) in (r.0, lies r.0 u r.1);
 }
   where
-    lies : (head : ℕ) (u : List Name) → LiesAt names firsts sizes links waiting lives removals units head u → LiesAt names firsts sizes links ws ls rs units head u
+    lies : (head : ℕ) (u : List Name) → LiesAt o waiting removals units head u → LiesAt (record o { lives = ls }) ws rs units head u
     lies head u t = record {
       among = t.among;
       life = same.gone head t.life;
@@ -220,8 +200,8 @@ gone_changed {names = names} {firsts} {sizes} {links} {waiting} {ws} {lives} {ls
     }
 
 -- a removed object is where its name is
-pub gone_index : {z : Sizes} {names : List (Option Name)} {made : List ℕ} {kinds : ℕ → List Kind} {lives : List Life} {polls : List ℕ} {left swept looked : ℕ} {phase : Phase} {removals : List Removal} {found : List Name}
-    → NamesShow z names made kinds → RemovedShow z names lives polls left swept phase removals found looked → (x : ℕ) (n : Name) → name_at names x ≡ Some n → still_there removals n ≡ true → is_gone (life_at lives x) ≡ true
+pub gone_index : {z : Sizes} {names : List (Option Name)} {kinds : ℕ → List Kind} {lives : List Life} {polls : List ℕ} {left swept looked : ℕ} {phase : Phase} {removals : List Removal} {found : List Name}
+    → NamesShow z names kinds → RemovedShow z names lives polls left swept phase removals found looked → (x : ℕ) (n : Name) → name_at names x ≡ Some n → still_there removals n ≡ true → is_gone (life_at lives x) ≡ true
 gone_index {lives = lives} {removals = removals} ns k x n at e =
     let r = test_among (λ r. same_name n r.name) removals e in
     let j = k.gone r.0 r.1 in

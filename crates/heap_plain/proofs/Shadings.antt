@@ -11,7 +11,7 @@ use Rattle.heap_plain.specs.Types.act
 use Rattle.heap_plain.specs.Parts.{name_at, first_at, kind_at, target_at}
 use Rattle.heap_plain.specs.Listing.{chained}
 use Rattle.heap_plain.specs.Notes.{names_at, all_set}
-use Rattle.heap_plain.specs.Sections.{Distinct}
+use Rattle.heap_plain.specs.Lists.{Distinct}
 use Rattle.heap_plain.specs.Shading.{InRow, InUnit, IsWorklist, CanShade, Shades}
 use Rattle.heap_plain.proofs.Noting.{names_at-append, by-append, one_name, length-all_set}
 use Rattle.heap_plain.proofs.Standing.{bit_below}

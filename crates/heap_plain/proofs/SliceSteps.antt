@@ -9,28 +9,28 @@ use Rattle.world_model.specs.Sizes.{Sizes}
 use Rattle.world_model.specs.NameLists.{same_name, same_pass, has}
 use Rattle.world_model.specs.State.{Marks, is_grey, grey_in}
 use Rattle.world_model.specs.Engines.{is_marker}
-use Rattle.world_model.proofs.ListFacts.{Among, and_true, or_true}
-use Rattle.world_model.proofs.NameFacts.{same_name_true, same_name_refl}
+use Rattle.world_model.proofs.ListFacts.{Among, and_true, or_true, among_test, test_among}
+use Rattle.world_model.proofs.NameFacts.{same_name_true, same_name_refl, has_among}
 use Rattle.world_model.proofs.Units.{AreApart}
 use Rattle.heap_plain.specs.Types.{Name, Kind, Pass, Lane, Marker, Collector, Phase, Idle, Marking, Gathering}
-use Rattle.heap_plain.specs.declared.life.Life.{Life}
-use Rattle.heap_plain.specs.Parts.{name_at, next_at}
+use Rattle.heap_plain.specs.Parts.{Objects, name_at, next_at}
 use Rattle.heap_plain.specs.Listing.{chained}
-use Rattle.heap_plain.specs.Sections.{Distinct, NamesShow, UnitsShow, StandsAt, AreLinked, MarksShow}
-use Rattle.heap_plain.proofs.WorldFacts.{among_test, test_among, has_among, any_same}
+use Rattle.heap_plain.specs.Lists.{Distinct}
+use Rattle.heap_plain.specs.Units.{NamesShow, UnitsShow, StandsAt, AreLinked}
+use Rattle.heap_plain.specs.Colouring.{MarksShow}
+use Rattle.heap_plain.proofs.WorldFacts.{any_same}
 use Rattle.heap_plain.proofs.Standing.{one_unit}
 use Rattle.heap_plain.proofs.MarkSteps.{not_in}
 use Rattle.heap_plain.proofs.Listings.{chained_next}
 
 -- ---- one unit is scanned
 
-module _ {z : Sizes} {names : List (Option Name)} {made : List ℕ} {kinds : ℕ → List Kind} {firsts sizes links : List ℕ} {lives : List Life} {units : List (List Name)}
-    (ns : NamesShow z names made kinds) (us : UnitsShow z names firsts sizes links lives units) (apart : AreApart kinds units) where
-  scanned_same : (head other : ℕ) (u v : List Name) (n : Name) (scanned : List Name) → StandsAt names firsts sizes links lives units head u → StandsAt names firsts sizes links lives units other v → has u n ≡ true → other ≢ head → list_any (has scanned) v ≡ list_any (has (n ∷ scanned)) v
+module _ {z : Sizes} {o : Objects} {kinds : ℕ → List Kind} {units : List (List Name)} (ns : NamesShow z o.names kinds) (us : UnitsShow z o units) (apart : AreApart kinds units) where
+  scanned_same : (head other : ℕ) (u v : List Name) (n : Name) (scanned : List Name) → StandsAt o units head u → StandsAt o units other v → has u n ≡ true → other ≢ head → list_any (has scanned) v ≡ list_any (has (n ∷ scanned)) v
   scanned_same head other u v n scanned t q e ne = any_same (has scanned) (has (n ∷ scanned)) v (λ m a. let f = not_in ns us apart head other u v n m t q e ne a in rw f refl)
 
-  pub scan_one : {marked : List Bool} {listed grey : List ℕ} {kept fresh scanned : List Name} (head : ℕ) (u : List Name) (n : Name) → StandsAt names firsts sizes links lives units head u → has u n ≡ true → Distinct (head ∷ grey)
-      → MarksShow names firsts sizes links lives units marked listed (head ∷ grey) kept fresh scanned → MarksShow names firsts sizes links lives units marked listed grey kept fresh (n ∷ scanned)
+  pub scan_one : {marked : List Bool} {listed grey : List ℕ} {kept fresh scanned : List Name} (head : ℕ) (u : List Name) (n : Name) → StandsAt o units head u → has u n ≡ true → Distinct (head ∷ grey)
+      → MarksShow o units marked listed (head ∷ grey) kept fresh scanned → MarksShow o units marked listed grey kept fresh (n ∷ scanned)
   scan_one {marked} {listed} {grey} {kept} {fresh} {scanned} head u n t e once k = record {
     bits = k.bits;
     listed_marked = k.listed_marked;
@@ -41,10 +41,6 @@ module _ {z : Sizes} {names : List (Option Name)} {made : List ℕ} {kinds : ℕ
         let parts = and_true _ _ r.2 in
         (r.0, r.1, and_from _ _ parts.0 (ap not (sym (scanned_same head other u r.0 n scanned t r.1 e ne)) ∙ parts.1));
     all_grey = λ other v q is. all_grey other v q is (dite (ℕ_discrete other head) (λ (same : other ≡ head). inl same) (λ (ne : other ≢ head). inr ne));
-    black_marked = λ other v q is. dite (ℕ_discrete other head)
-        (λ (same : other ≡ head). ap (λ (x : ℕ). get_or marked x false) same ∙ head_marked)
-        (λ (ne : other ≢ head). k.black_marked other v q (scanned_same head other u v n scanned t q e ne ∙ is));
-    known = k.known;
   }
     where
       wrong : (b : Bool) → b ≡ true → not b ≡ true → ⊥
@@ -54,15 +50,9 @@ module _ {z : Sizes} {names : List (Option Name)} {made : List ℕ} {kinds : ℕ
       scanned_now : list_any (has (n ∷ scanned)) u ≡ true
       scanned_now = among_test (has (n ∷ scanned)) u n (has_among u n e) (let r = same_name_refl n in rw r refl)
 
-      head_marked : get_or marked head false ≡ true
-      head_marked =
-          let r = k.grey_units head (inl refl) in
-          let f = test_among (has kept) r.0 (and_true _ _ r.2).0 in
-          k.bits head r.0 r.1 ∙ among_test (λ m. has kept m || has fresh m) r.0 f.0 f.1 (rw f.2 refl)
-
-      all_grey : (other : ℕ) (v : List Name) → StandsAt names firsts sizes links lives units other v → (list_any (has kept) v && not (list_any (has (n ∷ scanned)) v)) ≡ true → (other ≡ head) ⊎ (other ≢ head) → Among grey other
+      all_grey : (other : ℕ) (v : List Name) → StandsAt o units other v → (list_any (has kept) v && not (list_any (has (n ∷ scanned)) v)) ≡ true → (other ≡ head) ⊎ (other ≢ head) → Among grey other
       all_grey other v q is (inl same) =
-          let unit : u ≡ v = one_unit apart us head u v t (subst (λ (x : ℕ). StandsAt names firsts sizes links lives units x v) same q) in
+          let unit : u ≡ v = one_unit apart us head u v t (subst (λ (x : ℕ). StandsAt o units x v) same q) in
           absurd (wrong (list_any (has (n ∷ scanned)) u) scanned_now (ap (λ (x : List Name). not (list_any (has (n ∷ scanned)) x)) unit ∙ (and_true (list_any (has kept) v) _ is).1))
       all_grey other v q is (inr ne) =
           let parts = and_true _ _ is in

@@ -8,31 +8,37 @@ use Rattle.std.proofs.lemmas.Bool.{and_from}
 use Rattle.std.proofs.lemmas.List.{length-map, length-take-le}
 use Rattle.std.proofs.lemmas.Grind.{flat_map-append}
 use Rattle.world_model.specs.Sizes.{Sizes, item_count}
-use Rattle.world_model.specs.NameLists.{has, all_different, same_name, members, begins_with}
+use Rattle.world_model.specs.NameLists.{has, same_name, members, begins_with}
 use Rattle.world_model.specs.World.{World, Removal, is_at, has_stage, left_in}
 use Rattle.world_model.specs.World as model
 use Rattle.world_model.specs.CollectorSteps.{Sweeps}
-use Rattle.world_model.specs.Histories.{after, state_of}
-use Rattle.world_model.proofs.ListFacts.{Among, among_append}
-use Rattle.world_model.proofs.NameFacts.{same_name_refl}
-use Rattle.world_model.proofs.Queues.{IsQueue, queue_start}
+use Rattle.world_model.specs.Histories.{MayBy, after, state_of}
+use Rattle.world_model.specs.Next.{next}
+use Rattle.world_model.proofs.ListFacts.{Among, among_append, among_left, among_right, among_test}
+use Rattle.world_model.proofs.NameFacts.{same_name_refl, has_among, among_has, among_members}
+use Rattle.world_model.proofs.Queues.{IsQueue, queue_start, named_any, unit_in_order}
+use Rattle.world_model.proofs.Destroying.{order_of}
+use Rattle.world_model.proofs.Sound.{IsSound, sound, next_sound}
 use Rattle.heap_plain.specs.Types.{Name, Ref, Kind, Phase, Idle, Marking, Gathering, Collector, Swept, SweepStop, Entry}
 use Rattle.heap_plain.specs.Types.act
 use Rattle.heap_plain.specs.Types.sweep
 use Rattle.heap_plain.specs.declared.life.Life.{Life}
 use Rattle.heap_plain.specs.declared.life.Life.TheVariants.{Free, Live, Removed, Begun, Finished}
-use Rattle.heap_plain.specs.Parts.{Parts, Holds, name_at, life_at, is_gone}
+use Rattle.heap_plain.specs.Parts.{Parts, Ends, name_at, life_at, is_gone}
 use Rattle.heap_plain.specs.Listing.{units_at, CanList, ListsUnits}
 use Rattle.heap_plain.specs.Sweeping.{removed_name, removed_names}
-use Rattle.heap_plain.specs.Sections.{Distinct, NamesShow, RemovedShow, removal_at, count_left, OrderShows, QueueShows, GatherShows, AreNamed, ReadyAt, gone_world, todo_of, ring_of}
+use Rattle.heap_plain.specs.Lists.{Distinct}
+use Rattle.heap_plain.specs.Units.{NamesShow}
+use Rattle.heap_plain.specs.Destroying.{RemovedShow, removal_at, count_left, OrderShows, QueueShows, GatherShows, AreNamed, ReadyAt, gone_world, todo_of, ring_of, still_there, Destroying}
 use Rattle.heap_plain.specs.Plain.{Shows, IsPlain}
-use Rattle.heap_plain.proofs.WorldFacts.{has_among, among_has, among_left, among_right, among_test, no_longer}
-use Rattle.heap_plain.proofs.Entries.{plain_more, holds_more}
+use Rattle.heap_plain.proofs.WorldFacts.{no_longer, different_distinct, distinct_different}
+use Rattle.heap_plain.proofs.Entries.{Done, does}
 use Rattle.heap_plain.proofs.Standing.{life_below}
+use Rattle.heap_plain.proofs.NewNames.{members_among}
 use Rattle.heap_plain.proofs.MarkSteps.{distinct_snoc}
 use Rattle.heap_plain.proofs.Finding.{removed_append}
 use Rattle.heap_plain.proofs.Queueing.{named_append}
-use Rattle.heap_plain.proofs.Gathering.{order_of, order_distinct, few_named, not_begun, units_named, links_within, order_all}
+use Rattle.heap_plain.proofs.Gathering.{order_distinct, few_named, not_begun, units_named, links_within}
 
 -- ---- the names that are found
 
@@ -68,7 +74,7 @@ at_found names lives from (suc count) i n low high at life = dite (dec_le (from 
     here : from + count ≡ i → Among (removed_name (life_at lives (from + count)) (name_at names (from + count))) n
     here e = let l : life_at lives (from + count) ≡ Removed = ap (life_at lives) e ∙ life in let o : name_at names (from + count) ≡ Some n = ap (name_at names) e ∙ at in rw (l, o) (inl refl)
 
-distinct_found : {z : Sizes} {names : List (Option Name)} {made : List ℕ} {kinds : ℕ → List Kind} → NamesShow z names made kinds → (lives : List Life) (from count : ℕ) → Distinct (removed_names names lives from count)
+distinct_found : {z : Sizes} {names : List (Option Name)} {kinds : ℕ → List Kind} → NamesShow z names kinds → (lives : List Life) (from count : ℕ) → Distinct (removed_names names lives from count)
 distinct_found ns lives from zero = tt
 distinct_found {names} ns lives from (suc count) = go (life_at lives (from + count)) (name_at names (from + count)) refl (distinct_found ns lives from count)
   where
@@ -82,14 +88,6 @@ distinct_found {names} ns lives from (suc count) = go (life_at lives (from + cou
     go Finished o e d = subst (λ (xs : List Name). Distinct xs) (sym (append-nil (removed_names names lives from count))) d
 
 -- ---- tests
-
-pub distinct_different : (names : List Name) → Distinct names → all_different names ≡ true
-distinct_different [] d = refl
-distinct_different (n ∷ names) d = and_from _ _ (go (has names n) refl) (distinct_different names d.1)
-  where
-    go : (b : Bool) → has names n ≡ b → not b ≡ true
-    go false e = refl
-    go true e = absurd (d.0 (has_among names n e))
 
 all_pass : {A : Type 0} (q : A → Bool) (xs : List A) → ((x : A) → Among xs x → q x ≡ true) → list_all q xs ≡ true
 all_pass q [] f = refl
@@ -107,49 +105,28 @@ among_name (x ∷ removals) n (inr a) = let r = among_name removals n a in (r.0,
 
 -- ---- no collection gathers
 
-pub refuses_sweep : (z : Sizes) (p : Parts) (h : List Entry) (budget : ℕ) → IsPlain z p h → p.phase ≢ Gathering
-    → IsPlain z p (h ++ record { pass = Collector; act = act.Sweep budget (record { looked = 0; found = 0; stop = sweep.NotGathering p.phase }) [] } ∷ [])
+pub refuses_sweep : (z : Sizes) (p : Parts) (h : List Entry) (budget : ℕ) → IsPlain z p h → p.phase ≢ Gathering → Done z p h (h ++ record { pass = Collector; act = act.Sweep budget (record { looked = 0; found = 0; stop = sweep.NotGathering p.phase }) [] } ∷ []) Collector (act.Sweep budget (record { looked = 0; found = 0; stop = sweep.NotGathering p.phase }) [])
 refuses_sweep z p h budget was other =
     let s = was.shows in
-    plain_more z p p h (record { pass = Collector; act = act.Sweep budget (record { looked = 0; found = 0; stop = sweep.NotGathering p.phase }) [] } ∷ []) was
-    (record { finishes = s.none_agreed; may = (s.phase, other, refl, refl, refl) }, tt)
-    (record {
-      phase = s.phase;
-      frames = s.frames;
-      names = s.names;
-      units = s.units;
-      distinct = s.distinct;
+    let reply : Swept = record { looked = 0; found = 0; stop = sweep.NotGathering p.phase } in
+    does Collector (act.Sweep budget reply []) (act.Sweep budget reply [] ∷ []) was (refl, tt) (record { finishes = was.rest.between.agreed; may = (s.phase, other, refl, refl, refl) }, tt)
+    record {
+      gate = s.gate;
+      objects = s.objects;
+      rows = s.rows;
       roots = s.roots;
-      held = s.held;
-      work = s.work;
-      idle = s.idle;
-      marks = s.marks;
-      roots_marked = s.roots_marked;
-      kinds = s.kinds;
-      cells = s.cells;
-      black = s.black;
-      removed = subst₂ (λ (found : List Name) (looked : ℕ). RemovedShow z p.names p.lives p.polls p.left p.swept (after h).phase (after h).removals found looked) (sym (append-nil (after h).found)) (nothing (after h).swept) s.removed;
-      gone = s.gone;
-      order = s.order;
-      gathers = λ e. absurd (other e);
-      queue = λ e. subst (λ (found : List Name). QueueShows p.names p.order p.listed p.begun p.from p.kept p.done (after h).removals (after h).last_removed found (state_of h).collector.asked) (sym (append-nil (after h).found)) (s.queue e);
-      free = s.free;
-      none_agreed = refl;
-      none_asked = s.none_asked;
-      no_steps = refl;
       garbage = s.garbage;
-    })
+      colours = s.colours;
+      stock = s.stock;
+      ends = subst₂ (λ (found : List Name) (looked : ℕ). Destroying z p.phase p.objects p.ends (after h).removals (after h).last_removed found looked (state_of h).collector.asked) (sym (append-nil (after h).found)) (nothing (after h).swept) s.ends;
+    }
   where
     nothing : (looked : ℕ) → looked ≡ looked + 0
     nothing looked = omega arith
 
-pub sweep_held : (h : List Entry) (names : List (Option Name)) (budget : ℕ) (reply : Swept) (found : List Name) (k : ℕ) (r : Ref) → Holds record { history = h; names = names } k r
-    → Holds record { history = h ++ record { pass = Collector; act = act.Sweep budget reply found } ∷ []; names = names } k r
-sweep_held h names budget reply found k r = holds_more h _ names k r (λ e. e)
-
 -- ---- a collection gathers
 
-module _ (z : Sizes) (p : Parts) (h : List Entry) (budget looked count : ℕ) (was : IsPlain z p h) (gathering : p.phase ≡ Gathering) (within : looked ≤ budget) (few : count ≤ looked) (range : p.swept + looked ≤ length p.lives)
+module _ {z : Sizes} {p : Parts} {h : List Entry} {budget looked count : ℕ} (was : IsPlain z p h) (gathering : p.phase ≡ Gathering) (within : looked ≤ budget) (few : count ≤ looked) (range : p.swept + looked ≤ length p.lives)
     (len : length (removed_names p.names p.lives p.swept looked) ≡ count) (few_items : item_count z < 2 ^ 32) where
   abbrev s : Shows z p (state_of h)
   s = was.shows
@@ -160,9 +137,19 @@ module _ (z : Sizes) (p : Parts) (h : List Entry) (budget looked count : ℕ) (w
   phase_is : (after h).phase ≡ Gathering
   phase_is = sym s.phase ∙ gathering
 
+  -- what holds of the removed objects of every history
+  known : IsSound (state_of h)
+  known = sound z h was.legal
+
+  once : Distinct (members (after h).last_removed)
+  once = different_distinct _ known.destroying.units_different
+
+  unbegun : (r : Removal) → Among (after h).removals r → r.stage ≡ model.Removed
+  unbegun = known.destroying.unbegun phase_is
+
   -- the removed objects, in the phase that is
   removed_is : RemovedShow z p.names p.lives p.polls p.left p.swept Gathering (after h).removals (after h).found (after h).swept
-  removed_is = subst (λ (phase : Phase). RemovedShow z p.names p.lives p.polls p.left p.swept phase (after h).removals (after h).found (after h).swept) phase_is s.removed
+  removed_is = subst (λ (phase : Phase). RemovedShow z p.names p.lives p.polls p.left p.swept phase (after h).removals (after h).found (after h).swept) gathering s.removed
 
   gathers : GatherShows p.names p.order p.listed p.begun p.done (after h).removals (after h).last_removed (after h).found
   gathers = s.gathers gathering
@@ -179,7 +166,7 @@ module _ (z : Sizes) (p : Parts) (h : List Entry) (budget looked count : ℕ) (w
       from_zero = omega arith
 
   gone_removed : (i : ℕ) → is_gone (life_at p.lives i) ≡ true → life_at p.lives i ≡ Removed
-  gone_removed = not_begun s.names s.units removed_is s.gone
+  gone_removed = not_begun s.names s.units removed_is s.gone once unbegun
 
   apart : (n : Name) → Among (after h).found n → Among names n → ⊥
   apart n a b =
@@ -234,10 +221,10 @@ module _ (z : Sizes) (p : Parts) (h : List Entry) (budget looked count : ℕ) (w
       ap members (flat_map-append (λ n. filter (begins_with n) (after h).last_removed) (after h).found more)
       ∙ flat_map-append (λ (u : List Name). u) (order_of (after h).last_removed (after h).found) (order_of (after h).last_removed more) in
       subst (λ (ns : List Name). AreNamed p.names (listed_now k) ns) (sym spread)
-      (named_append p.names _ _ _ _ gathers.listed_at (units_named s.names s.units removed_is s.gone p.swept k))
+      (named_append p.names _ _ _ _ gathers.listed_at (units_named s.names s.units removed_is s.gone once unbegun p.swept k))
 
   distinct_now : (k : ℕ) → Distinct (members (order_of (after h).last_removed ((after h).found ++ removed_names p.names p.lives p.swept k)))
-  distinct_now k = order_distinct (after h).last_removed ((after h).found ++ removed_names p.names p.lives p.swept k) s.gone.distinct
+  distinct_now k = order_distinct (after h).last_removed ((after h).found ++ removed_names p.names p.lives p.swept k) once
       (subst (λ (ns : List Name). Distinct ns) (sym (found_now k)) (distinct_found s.names p.lives 0 (p.swept + k)))
 
   listed_fits : (k : ℕ) → p.listed + length (units_at p.lives p.firsts p.sizes p.next p.swept k) ≤ item_count z
@@ -253,17 +240,12 @@ module _ (z : Sizes) (p : Parts) (h : List Entry) (budget looked count : ℕ) (w
     by_life = range;
     by_first = omega (arith, range, s.units.lives_len, s.units.firsts_len);
     by_size = omega (arith, range, s.units.lives_len, s.units.sizes_len);
-    within = links_within s.names s.units removed_is s.gone;
+    within = links_within s.names s.units removed_is s.gone once unbegun;
     fits = λ k b. omega (arith, listed_fits k, s.order.len);
   }
 
   left_now : p.left ≡ length (after h).found
-  left_now = go (after h).phase phase_is s.removed.left_is
-    where
-      go : (phase : Phase) → phase ≡ Gathering → p.left ≡ count_left phase (after h).removals (after h).found → p.left ≡ length (after h).found
-      go Gathering e is = is
-      go Idle e is = absurd cc
-      go Marking e is = absurd cc
+  left_now = removed_is.left_is
 
   found_len : p.left + count ≡ length found'
   found_len = let a = length-append (after h).found names in omega (arith, left_now)
@@ -295,51 +277,39 @@ module _ (z : Sizes) (p : Parts) (h : List Entry) (budget looked count : ℕ) (w
   listed_at' : (order : List ℕ) (all : ℕ) → ListsUnits p.lives p.firsts p.sizes p.next p.swept looked p.listed all p.order order → AreNamed p.names (take all order) (members (order_of (after h).last_removed found'))
   listed_at' order all lists = subst (λ (at : List ℕ). AreNamed p.names at (members (order_of (after h).last_removed found'))) (sym lists.order) (named_now looked)
 
-  pub sweeps_more : (order : List ℕ) (all : ℕ) → ListsUnits p.lives p.firsts p.sizes p.next p.swept looked p.listed all p.order order
-      → p.swept + looked < length p.lives → IsPlain z (record p { swept = p.swept + looked; left = p.left + count; order = order; listed = all }) (h ++ more_entry ∷ [])
-  sweeps_more order all lists below = plain_more z p _ h (more_entry ∷ []) was
-      (record { finishes = s.none_agreed; may = (sweeps sweep.More, omega (arith, s.removed.swept_is, s.units.lives_len)) }, tt)
-      (record {
-        phase = s.phase;
-        frames = s.frames;
-        names = s.names;
-        units = s.units;
-        distinct = s.distinct;
+  -- the ends after it
+  abbrev swept_ends : List ℕ → ℕ → Ends
+  swept_ends order all = record (p.ends) { swept = p.swept + looked; left = p.left + count; order = order; listed = all }
+
+  pub sweeps_more : {order : List ℕ} {all : ℕ} → ListsUnits p.lives p.firsts p.sizes p.next p.swept looked p.listed all p.order order
+      → p.swept + looked < length p.lives → Done z (record p { ends = swept_ends order all }) h (h ++ more_entry ∷ []) Collector (act.Sweep budget more_reply names)
+  sweeps_more {order} {all} lists below = does Collector (act.Sweep budget more_reply names) (act.Sweep budget more_reply names ∷ []) was (refl, tt)
+      (record { finishes = was.rest.between.agreed; may = (sweeps sweep.More, omega (arith, s.removed.swept_is, s.units.lives_len)) }, tt) record {
+        gate = s.gate;
+        objects = s.objects;
+        rows = s.rows;
         roots = s.roots;
-        held = s.held;
-        work = s.work;
-        idle = s.idle;
-        marks = λ e. absurd (not_marking e);
-        roots_marked = λ e. absurd (not_marking e);
-        kinds = s.kinds;
-        cells = s.cells;
-        black = s.black;
-        removed = record {
-          swept_is = ap (λ (k : ℕ). k + looked) s.removed.swept_is;
-          swept_few = swept_below;
-          polls_len = s.removed.polls_len;
-          removed = s.removed.removed;
-          gone = s.removed.gone;
-          distinct = s.removed.distinct;
-          fresh = s.removed.fresh;
-          found_is = λ e. found_now looked;
-          left_is = found_len ∙ sym (left_gathering phase_is);
-          left_few = λ e. omega (arith, s.removed.left_few phase_is);
-          none_left = s.removed.none_left;
-        };
-        gone = s.gone;
-        order = order_now order all lists;
-        gathers = λ e. record { none_begun = gathers.none_begun; none_done = gathers.none_done; listed_at = listed_at' order all lists; all_there = gathers.all_there };
-        queue = λ e. absurd (let a = gathering in cc);
-        free = s.free;
-        none_agreed = refl;
-        none_asked = s.none_asked;
-        no_steps = refl;
         garbage = s.garbage;
-      })
-    where
-      left_gathering : (after h).phase ≡ Gathering → count_left (after h).phase (after h).removals found' ≡ length found'
-      left_gathering e = ap (λ (ph : Phase). count_left ph (after h).removals found') e
+        colours = s.colours;
+        stock = s.stock;
+        ends = record {
+          removed = record {
+            swept_is = ap (λ (k : ℕ). k + looked) s.removed.swept_is;
+            swept_few = swept_below;
+            polls_len = s.removed.polls_len;
+            removed = s.removed.removed;
+            gone = s.removed.gone;
+            found_is = λ e. found_now looked;
+            left_is = found_len ∙ sym (ap (λ (phase : Phase). count_left phase (after h).removals found') gathering);
+            left_few = λ e. omega (arith, s.removed.left_few gathering);
+          };
+          gone = s.gone;
+          order = order_now order all lists;
+          gathers = λ e. record { none_begun = gathers.none_begun; none_done = gathers.none_done; listed_at = listed_at' order all lists };
+          queue = λ e. absurd (let a = gathering in cc);
+          none_asked = s.none_asked;
+        };
+      }
 
   -- ---- all is found
 
@@ -360,74 +330,71 @@ module _ (z : Sizes) (p : Parts) (h : List Entry) (budget looked count : ℕ) (w
       let names_of : List Name = map (λ (x : Removal). x.name) (after h).removals in
       let len_names : length names_of ≡ length (after h).removals = length-map (after h).removals (λ (x : Removal). x.name) in
       let up : length found' ≤ length names_of = no_longer found' names_of distinct' (λ n a. let j = found_are' n a in name_among (after h).removals (removal_at p.lives p.polls j.0 n) (s.removed.removed j.0 n j.2 (ap is_gone j.3))) in
-      let down : length names_of ≤ length found' = no_longer names_of found' s.removed.distinct (λ n a. let r = among_name (after h).removals n a in subst (λ (x : Name). Among found' x) r.2 (all_found all r.0 r.1)) in
+      let down : length names_of ≤ length found' = no_longer names_of found' (different_distinct _ known.destroying.different) (λ n a. let r = among_name (after h).removals n a in subst (λ (x : Name). Among found' x) r.2 (all_found all r.0 r.1)) in
       omega arith
+
+  may_settle : length p.lives ≤ p.swept + looked → MayBy z (state_of h) Collector (act.Sweep budget settled_reply names)
+  may_settle all = record {
+    finishes = was.rest.between.agreed;
+    may = (sweeps sweep.Settled, omega (arith, s.removed.swept_is, s.units.lives_len), all_pass (λ r. has found' r.name) (after h).removals (λ r a. among_has found' r.name (all_found all r a)));
+  }
+
+  -- the order has exactly the removed objects
+  in_order_is : length p.lives ≤ p.swept + looked → (n : Name) → still_there (after h).removals n ≡ has (members (order_of (after h).last_removed found')) n
+  in_order_is all n = both (still_there (after h).removals n) _ ((next_sound z (state_of h) settled_entry (may_settle all) known).destroying.covered (λ e. cc) n) down
+    where
+      both : (a b : Bool) → (a ≡ true → b ≡ true) → (b ≡ true → a ≡ true) → a ≡ b
+      both true b f g = sym (f refl)
+      both false true f g = g refl
+      both false false f g = refl
+
+      down : has (members (order_of (after h).last_removed found')) n ≡ true → still_there (after h).removals n ≡ true
+      down e =
+          let v = among_members _ n (has_among _ n e) in
+          let there = members_among (after h).last_removed v.0 n (unit_in_order (after h).last_removed found' v.0 v.1).0 v.2 in
+          sym (named_any n (after h).removals) ∙ ap (λ (ns : List Name). has ns n) (known.destroying.all_there phase_is) ∙ among_has _ n there
 
   -- the queue of all that was removed
   queue_now : length p.lives ≤ p.swept + looked → IsQueue (gone_world (after h).removals (after h).last_removed found') None (members (order_of (after h).last_removed found')) [] None
-  queue_now all = queue_start (gone_world (after h).removals (after h).last_removed found')
-      (distinct_different _ (distinct_now looked))
-      (distinct_different _ s.gone.distinct)
-      (distinct_different _ s.removed.distinct)
-      (removed_is.fresh refl)
-      (order_all s.names s.units removed_is s.gone found' gathers.all_there (λ i n at life. are_found' i n (omega (arith, life_below p.lives i (λ free. cc))) at life))
+  queue_now all = queue_start (gone_world (after h).removals (after h).last_removed found') (distinct_different _ (distinct_now looked)) known.destroying.units_different known.destroying.different unbegun (in_order_is all)
 
-  pub sweeps_all : (order : List ℕ) (end : ℕ) → ListsUnits p.lives p.firsts p.sizes p.next p.swept looked p.listed end p.order order
-      → length p.lives ≤ p.swept + looked → IsPlain z (record p { swept = p.swept + looked; left = p.left + count; order = order; listed = end; phase = Idle }) (h ++ settled_entry ∷ [])
-  sweeps_all order end lists all = plain_more z p _ h (settled_entry ∷ []) was (
-    record {
-      finishes = s.none_agreed;
-      may = (sweeps sweep.Settled, omega (arith, s.removed.swept_is, s.units.lives_len), all_pass (λ r. has found' r.name) (after h).removals (λ r a. among_has found' r.name (all_found all r a)));
-    },
-    tt,
-  )
-      (record {
-        phase = refl;
-        frames = s.frames;
-        names = s.names;
-        units = s.units;
-        distinct = s.distinct;
-        roots = s.roots;
-        held = s.held;
-        work = s.work;
-        idle = λ ne. s.idle not_marking;
-        marks = λ e. absurd cc;
-        roots_marked = λ e. absurd cc;
-        kinds = s.kinds;
-        cells = s.cells;
-        black = λ e. absurd cc;
-        removed = record {
-          swept_is = ap (λ (k : ℕ). k + looked) s.removed.swept_is;
-          swept_few = swept_below;
-          polls_len = s.removed.polls_len;
-          removed = s.removed.removed;
-          gone = s.removed.gone;
-          distinct = s.removed.distinct;
-          fresh = λ e. absurd cc;
-          found_is = λ e. absurd cc;
-          left_is = found_len ∙ same_length all;
-          left_few = λ e. absurd cc;
-          none_left = λ e. absurd cc;
-        };
-        gone = s.gone;
-        order = order_now order end lists;
-        gathers = λ e. absurd cc;
-        queue = λ e. record {
-          todo = members (order_of (after h).last_removed found');
-          ring = [];
-          ready = None;
-          todo_at = subst (λ (k : ℕ). AreNamed p.names (todo_of order end k) (members (order_of (after h).last_removed found'))) (sym gathers.none_begun) (listed_at' order end lists);
-          ring_at = subst (λ (b : ℕ). AreNamed p.names (ring_of order b p.from p.kept) []) (sym gathers.none_begun) (subst₂ (λ (f k : ℕ). AreNamed p.names (ring_of order 0 f k) []) none_from none_kept tt);
-          ready_at = subst (λ (done : Option ℕ). ReadyAt p.names done None) (sym gathers.none_done) tt;
-          queue = subst (λ (last : Option Name). IsQueue (gone_world (after h).removals (after h).last_removed found') last (members (order_of (after h).last_removed found')) [] None)
-              (sym (s.none_asked (λ e. let a = gathering in cc))) (queue_now all);
-        };
-        free = s.free;
-        none_agreed = refl;
-        none_asked = λ ne. absurd (ne refl);
-        no_steps = refl;
-        garbage = s.garbage;
-      })
+  pub sweeps_all : {order : List ℕ} {end : ℕ} → ListsUnits p.lives p.firsts p.sizes p.next p.swept looked p.listed end p.order order
+      → length p.lives ≤ p.swept + looked → Done z (record p { gate = record (p.gate) { phase = Idle }; ends = swept_ends order end }) h (h ++ settled_entry ∷ []) Collector (act.Sweep budget settled_reply names)
+  sweeps_all {order} {end} lists all = does Collector (act.Sweep budget settled_reply names) (act.Sweep budget settled_reply names ∷ []) was (refl, tt) (may_settle all, tt) record {
+    gate = record { phase = refl; frames = s.frames };
+    objects = s.objects;
+    rows = s.rows;
+    roots = s.roots;
+    garbage = s.garbage;
+    colours = record { work = s.work; idle = λ ne. s.idle not_marking; marks = λ e. absurd cc };
+    stock = s.stock;
+    ends = record {
+      removed = record {
+        swept_is = ap (λ (k : ℕ). k + looked) s.removed.swept_is;
+        swept_few = swept_below;
+        polls_len = s.removed.polls_len;
+        removed = s.removed.removed;
+        gone = s.removed.gone;
+        found_is = λ e. absurd cc;
+        left_is = found_len ∙ same_length all;
+        left_few = λ e. absurd cc;
+      };
+      gone = s.gone;
+      order = order_now order end lists;
+      gathers = λ e. absurd cc;
+      queue = λ e. record {
+        todo = members (order_of (after h).last_removed found');
+        ring = [];
+        ready = None;
+        todo_at = subst (λ (k : ℕ). AreNamed p.names (todo_of order end k) (members (order_of (after h).last_removed found'))) (sym gathers.none_begun) (listed_at' order end lists);
+        ring_at = subst (λ (b : ℕ). AreNamed p.names (ring_of order b p.from p.kept) []) (sym gathers.none_begun) (subst₂ (λ (f k : ℕ). AreNamed p.names (ring_of order 0 f k) []) none_from none_kept tt);
+        ready_at = subst (λ (done : Option ℕ). ReadyAt p.names done None) (sym gathers.none_done) tt;
+        queue = subst (λ (last : Option Name). IsQueue (gone_world (after h).removals (after h).last_removed found') last (members (order_of (after h).last_removed found')) [] None)
+            (sym (s.none_asked (λ e. let a = gathering in cc))) (queue_now all);
+      };
+      none_asked = λ ne. absurd (ne refl);
+    };
+  }
     where
       none_from : 0 ≡ p.from
       none_from = omega (arith, s.order.from_few, gathers.none_begun)

@@ -1,19 +1,19 @@
 -- Facts of the world's definitions that any engine needs.
-use Rattle.std.proofs.Common.{◌≡◌, ◌≢◌, ℕ, ◌+◌, ◌≤◌, refl, sym, subst, ap, ◌∙◌, inl, inr, arith, Bool, cond, true, false, not, ◌||◌, ◌==◌, List, [], ◌∷◌, ◌++◌, length, unwrap_or, ◌⊎◌, filter, length-append}
-use Rattle.std.specs.List.{list_any, find}
-use Rattle.std.proofs.lemmas.Bool.{eqb-true, eq-eqb, ne_eqb, or_parts}
-use Rattle.world_model.specs.Sizes.{Sizes}
-use Rattle.world_model.specs.NameLists.{same_name, same_pass, has, set_at}
-use Rattle.world_model.specs.State.{beginning}
+use Rattle.std.proofs.Common.{◌≡◌, ◌≢◌, ℕ, ◌+◌, ◌≤◌, refl, sym, subst, ap, ◌∙◌, inl, inr, arith, Bool, cond, true, false, not, ◌||◌, ◌==◌, List, [], ◌∷◌, ◌++◌, length, ◌⊎◌, filter, length-append, count_by}
+use Rattle.std.specs.List.{list_any, sum_by}
+use Rattle.std.proofs.lemmas.Bool.{eqb-true, eq-eqb, ne_eqb, or_parts, and_from}
+use Rattle.std.proofs.lemmas.List.Sums.{length-filter}
+use Rattle.std.proofs.lemmas.List.Filters.{sum_by-filter_both}
+use Rattle.world_model.specs.NameLists.{same_name, same_pass, has, set_at, all_different}
+use Rattle.world_model.specs.State.{State, beginning}
 use Rattle.world_model.specs.Next.{run}
-use Rattle.world_model.specs.Histories.{Legal, state_of}
-use Rattle.world_model.specs.Calls.{Appends, CallOf}
+use Rattle.world_model.specs.Histories.{state_of}
 use Rattle.world_model.proofs.Joins.{run-append}
-use Rattle.world_model.proofs.ListFacts.{or_true, or_right, Among}
-use Rattle.world_model.proofs.NameFacts.{same_name_true, same_name_refl, found_unit}
-use Rattle.world_model.proofs.Units.{AreApart}
-use Rattle.heap_plain.specs.Types.{Name, Kind, Pass, Lane, Marker, Collector, Act, Entry}
-use Rattle.heap_plain.specs.Sections.{AreOnce, Distinct}
+use Rattle.world_model.proofs.ListFacts.{and_true, Among}
+use Rattle.world_model.proofs.NameFacts.{same_name_true, has_among, among_has}
+use Rattle.world_model.proofs.Counts.{counted, count-cons}
+use Rattle.heap_plain.specs.Types.{Name, Pass, Lane, Marker, Collector, Entry}
+use Rattle.heap_plain.specs.Lists.{Distinct}
 
 -- ---- functions with one value changed
 
@@ -38,17 +38,6 @@ differs x y ne = go (same_name x y) refl
     go false e = refl
 
 -- ---- passes
-
-pub same_pass_true : (p q : Pass) → same_pass p q ≡ true → p ≡ q
-same_pass_true (Lane a) (Lane b) h = ap (λ (k : ℕ). Lane k) (eqb-true a b h)
-same_pass_true (Lane a) (Marker b) h = absurd cc
-same_pass_true (Lane a) Collector h = absurd cc
-same_pass_true (Marker a) (Marker b) h = ap (λ (k : ℕ). Marker k) (eqb-true a b h)
-same_pass_true (Marker a) (Lane b) h = absurd cc
-same_pass_true (Marker a) Collector h = absurd cc
-same_pass_true Collector Collector h = refl
-same_pass_true Collector (Lane b) h = absurd cc
-same_pass_true Collector (Marker b) h = absurd cc
 
 pub same_pass_refl : (p : Pass) → same_pass p p ≡ true
 same_pass_refl (Lane a) = eq-eqb a a refl
@@ -82,69 +71,23 @@ pub none_out : {A : Type 0} (q : A → Bool) (xs : List A) → list_any q xs ≡
 none_out q [] e = refl
 none_out q (x ∷ xs) e = let parts = or_parts (q x) (list_any q xs) e in rw parts.0 (ap (λ (ys : List _). x ∷ ys) (none_out q xs parts.1))
 
--- a pass that stands once in the list is one element of it
-pub one_out : (p : Pass) (passes : List Pass) → AreOnce passes → list_any (same_pass p) passes ≡ true → length (filter (λ q. not (same_pass p q)) passes) + 1 ≡ length passes
-one_out p [] once h = absurd cc
-one_out p (q ∷ passes) once h = go (same_pass p q) refl (one_out p passes once.1) h
+-- a pass that stands at most once in the list is one element of it
+pub one_out : (p : Pass) (passes : List Pass) → count_by (same_pass p) passes ≤ 1 → list_any (same_pass p) passes ≡ true → length (filter (λ q. not (same_pass p q)) passes) + 1 ≡ length passes
+one_out p passes once h =
+    let both = sum_by-filter_both (same_pass p) (λ q. not (same_pass p q)) (λ q. refl) (λ q. 1) passes in
+    let some = counted (same_pass p) passes h in
+    omega (arith, once, length-filter (same_pass p) passes, length-sum (filter (same_pass p) passes), length-sum (filter (λ q. not (same_pass p q)) passes), length-sum passes)
   where
-    go : (b : Bool) → same_pass p q ≡ b → (list_any (same_pass p) passes ≡ true → length (filter (λ x. not (same_pass p x)) passes) + 1 ≡ length passes) → (b || list_any (same_pass p) passes) ≡ true
-        → length (cond (not b) (q ∷ filter (λ x. not (same_pass p x)) passes) (filter (λ x. not (same_pass p x)) passes)) + 1 ≡ length (q ∷ passes)
-    go true e rest h =
-        let none : list_any (same_pass p) passes ≡ false = subst (λ (x : Pass). list_any (same_pass x) passes ≡ false) (sym (same_pass_true p q e)) once.0 in
-        let same : length (filter (λ x. not (same_pass p x)) passes) ≡ length passes = ap (λ (xs : List Pass). length xs) (none_out (same_pass p) passes none) in
-        omega arith
-    go false e rest h = let t = rest h in omega arith
-
-pub any_less : {A : Type 0} (q r : A → Bool) (xs : List A) → list_any q xs ≡ false → list_any q (filter r xs) ≡ false
-any_less q r [] e = refl
-any_less q r (x ∷ xs) e = go (r x) (any_less q r xs (or_parts (q x) (list_any q xs) e).1)
-  where
-    go : (b : Bool) → list_any q (filter r xs) ≡ false → list_any q (cond b (x ∷ filter r xs) (filter r xs)) ≡ false
-    go true rest = rw (or_parts (q x) (list_any q xs) e).0 rest
-    go false rest = rest
-
-pub once_filter : (r : Pass → Bool) (passes : List Pass) → AreOnce passes → AreOnce (filter r passes)
-once_filter r [] h = tt
-once_filter r (p ∷ passes) h = go (r p) (once_filter r passes h.1)
-  where
-    go : (b : Bool) → AreOnce (filter r passes) → AreOnce (cond b (p ∷ filter r passes) (filter r passes))
-    go true rest = (any_less (same_pass p) r passes h.0, rest)
-    go false rest = rest
+    length-sum : {A : Type 0} (xs : List A) → sum_by (λ x. 1) xs ≡ length xs
+    length-sum [] = refl
+    length-sum (x ∷ xs) = let t = length-sum xs in let c = count-cons (λ y. true) x xs in omega arith
 
 -- ---- lists
-
-pub among_test : {A : Type 0} (q : A → Bool) (xs : List A) (x : A) → Among xs x → q x ≡ true → list_any q xs ≡ true
-among_test q [] x h e = absurd h
-among_test q (y ∷ xs) x (inl same) e = let t : q y ≡ true = ap q same ∙ e in rw t refl
-among_test q (y ∷ xs) x (inr h) e = or_right (q y) _ (among_test q xs x h e)
-
-pub test_among : {A : Type 0} (q : A → Bool) (xs : List A) → list_any q xs ≡ true → (x : A) × Among xs x × (q x ≡ true)
-test_among q [] h = absurd cc
-test_among {A} q (y ∷ xs) h = go (test_among q xs) (or_true (q y) (list_any q xs) h)
-  where
-    go : (list_any q xs ≡ true → (x : A) × Among xs x × (q x ≡ true)) → (q y ≡ true) ⊎ (list_any q xs ≡ true) → (x : A) × Among (y ∷ xs) x × (q x ≡ true)
-    go rest (inl e) = (y, inl refl, e)
-    go rest (inr e) = let r = rest e in (r.0, inr r.1, r.2)
-
-pub has_among : (names : List Name) (n : Name) → has names n ≡ true → Among names n
-has_among names n h = let found = test_among (same_name n) names h in subst (λ (m : Name). Among names m) (sym (same_name_true n found.0 found.2)) found.1
-
-pub among_has : (names : List Name) (n : Name) → Among names n → has names n ≡ true
-among_has names n h = among_test (same_name n) names n h (same_name_refl n)
 
 -- two tests that agree on the elements of a list
 pub any_same : {A : Type 0} (p q : A → Bool) (xs : List A) → ((x : A) → Among xs x → p x ≡ q x) → list_any p xs ≡ list_any q xs
 any_same p q [] f = refl
 any_same p q (x ∷ xs) f = ap (λ b. b || list_any p xs) (f x (inl refl)) ∙ ap (λ b. q x || b) (any_same p q xs (λ y h. f y (inr h)))
-
-pub among_left : {A : Type 0} (xs ys : List A) (y : A) → Among xs y → Among (xs ++ ys) y
-among_left [] ys y h = absurd h
-among_left (x ∷ xs) ys y (inl e) = inl e
-among_left (x ∷ xs) ys y (inr h) = inr (among_left xs ys y h)
-
-pub among_right : {A : Type 0} (xs ys : List A) (y : A) → Among ys y → Among (xs ++ ys) y
-among_right [] ys y h = h
-among_right (x ∷ xs) ys y h = inr (among_right xs ys y h)
 
 -- an element splits the list
 split_at : {A : Type 0} (x : A) (ys : List A) → Among ys x → (left : List A) × (right : List A) × (ys ≡ left ++ x ∷ right)
@@ -158,6 +101,19 @@ among_without [] right x y (inr h) ne = h
 among_without (z ∷ left) right x y (inl e) ne = inl e
 among_without (z ∷ left) right x y (inr h) ne = inr (among_without left right x y h ne)
 
+-- the two ways to say that nothing stands twice
+pub different_distinct : (names : List Name) → all_different names ≡ true → Distinct names
+different_distinct [] e = tt
+different_distinct (n ∷ names) e = let parts = and_true _ _ e in ((λ a. let there = among_has names n a in let out : not (has names n) ≡ true = parts.0 in cc), different_distinct names parts.1)
+
+pub distinct_different : (names : List Name) → Distinct names → all_different names ≡ true
+distinct_different [] d = refl
+distinct_different (n ∷ names) d = and_from _ _ (go (has names n) refl) (distinct_different names d.1)
+  where
+    go : (b : Bool) → has names n ≡ b → not b ≡ true
+    go false e = refl
+    go true e = absurd (d.0 (has_among names n e))
+
 -- a list without repetition is no longer than one that has all its elements
 pub no_longer : {A : Type 0} (xs ys : List A) → Distinct xs → ((x : A) → Among xs x → Among ys x) → length xs ≤ length ys
 no_longer [] ys d f = omega arith
@@ -169,21 +125,7 @@ no_longer (x ∷ xs) ys d f =
     let b = length-append s.0 (x ∷ s.1) in
     omega arith
 
--- ---- the unit of a name
-
-pub in_world_of : (units : List (List Name)) (u : List Name) (n : Name) → Among units u → has u n ≡ true → list_any (λ v. has v n) units ≡ true
-in_world_of units u n h e = among_test (λ v. has v n) units u h e
-
-pub unit_of_is : (kinds : ℕ → List Kind) (units : List (List Name)) (u : List Name) (n : Name) → AreApart kinds units → Among units u → has u n ≡ true → unwrap_or (find (λ v. has v n) units) [] ≡ u
-unit_of_is kinds units u n apart h e =
-    let found = found_unit units n (in_world_of units u n h e) in
-    apart.apart (unwrap_or (find (λ v. has v n) units) []) u n found.0 h found.1 e
-
 -- ---- histories
-
--- the entries of one call, which closes with this act
-pub appends_one : (z : Sizes) (h new : List Entry) (p : Pass) (a : Act) → CallOf (state_of h) p a (a ∷ []) → new ≡ h ++ record { pass = p; act = a } ∷ [] → Legal z new → Appends z h new p a
-appends_one z h new p a call grown legal = record { acts = a ∷ []; call = call; grown = grown; legal = legal }
 
 pub state_more : (h es : List Entry) → state_of (h ++ es) ≡ run (state_of h) es
 state_more h es = run-append beginning h es

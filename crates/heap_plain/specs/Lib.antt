@@ -1,5 +1,7 @@
 -- the Rust types of the crate below
 pub mod Types
+-- lists without repetition
+pub mod Lists
 -- the vectors of a plain heap, and what callers see of them
 pub mod Parts
 -- what the functions over the vectors do
@@ -10,8 +12,14 @@ pub mod Notes
 pub mod Sweeping
 pub mod Listing
 pub mod Purging
--- what the vectors show of the state that a history leaves
-pub mod Sections
+-- what the vectors show of the state that a history leaves, in sections: each over the parts that it reads
+pub mod Gates
+pub mod Units
+pub mod Roots
+pub mod Cells
+pub mod Colouring
+pub mod Stocking
+pub mod Destroying
 pub mod Plain
 -- what the functions that mark and store do
 pub mod Shading

@@ -11,21 +11,18 @@ use Rattle.heap_plain.specs.Types.{Name, Marking, Lane, Entry}
 use Rattle.heap_plain.specs.Types.act
 use Rattle.heap_plain.specs.Parts.{Parts, Shown}
 use Rattle.heap_plain.specs.Listing.{chained}
-use Rattle.heap_plain.specs.Sections.{StandsAt}
-use Rattle.heap_plain.specs.Plain.{Shows}
-
--- the state as if no unit were being taken apart
-abbrev pub mended : State → State
-mended s = record { world = s.world; marks = s.marks; frames = λ lane. record (s.frames lane) { broken = []; loosened = [] }; slices = s.slices; collector = s.collector }
+use Rattle.heap_plain.specs.Units.{StandsAt}
+use Rattle.heap_plain.specs.Plain.{Shows, IsAtRest}
 
 -- Members have left the unit of an object since the history was `old`, and so many are left, from the head on. The worklist begins with their indexes.
 pub record IsParting (z : Sizes) (old : Shown) (lane : ℕ) (at : Name) (head count left : ℕ) (p : Parts) (history : List Entry) : Type 0 where
+  pub rest : IsAtRest (state_of old.history)
   pub of : List Name
   pub grown : history ≡ old.history ++ by (Lane lane) (map act.Loose of)
   pub legal : Legal z history
-  pub shows : Shows z p (mended (state_of history))
+  pub shows : Shows z p (state_of history)
   pub front : List Name
-  pub stands : StandsAt p.names p.firsts p.sizes p.next p.lives (after history).units head front
+  pub stands : StandsAt p.objects (after history).units head front
   pub midway : IsMidway z (state_of history) lane (unit_of (after old.history) at) front
   pub counted : count ≡ length (unit_of (after old.history) at)
   pub size : left ≡ length front
@@ -35,6 +32,3 @@ pub record IsParting (z : Sizes) (old : Shown) (lane : ℕ) (at : Name) (head co
   pub own : at.lane ≡ lane
   pub unmarked : p.phase ≢ Marking
   pub names : p.names ≡ old.names
-  pub whole : ((state_of old.history).frames lane).broken ≡ []
-  pub held : (k : ℕ) → ((state_of history).frames k).held ≡ ((state_of old.history).frames k).held
-  pub others : (k : ℕ) → k ≢ lane → ((state_of history).frames k).broken ≡ []

@@ -38,27 +38,40 @@ one_index s k l q r h i same =
 
 -- ---- the vectors
 
--- the fields of a plain heap, but for its history
-pub record Parts : Type 0 where
+-- the gate: the phase, and whether the frame of each lane is open
+pub record Gate : Type 0 where
+  pub phase : Phase
+  pub frames : List Bool
+
+-- at each index the name of the object that stands there, the first index and the size of its unit, the link to the next member, and how far its life is
+pub record Objects : Type 0 where
   pub names : List (Option Name)
   pub firsts : List ℕ
   pub sizes : List ℕ
   pub next : List ℕ
+  pub lives : List Life
+
+-- at each index the kind of its object, and its cells: a row of slots for references and one for numbers
+pub record Rows : Type 0 where
   pub kinds : List Kind
   pub targets : List (Option ℕ)
   pub plains : List ℕ
-  pub lives : List Life
-  pub roots : List Bool
-  pub garbage : List Bool
+
+-- the marks of the running collection, and its worklist
+pub record Colours : Type 0 where
   pub marked : List Bool
   pub work : List ℕ
   pub scanned : ℕ
   pub pushed : ℕ
+
+-- what each lane has left: the stacks of free indexes, how many stand on each, and how many objects were made
+pub record Stock : Type 0 where
   pub free : List ℕ
   pub spare : List ℕ
   pub made : List ℕ
-  pub frames : List Bool
-  pub phase : Phase
+
+-- the removed objects: how many are left and how far sweeps came, the queue of destruction, polls, what units wait for, and the unit that is to be released
+pub record Ends : Type 0 where
   pub left : ℕ
   pub swept : ℕ
   pub order : List ℕ
@@ -69,6 +82,23 @@ pub record Parts : Type 0 where
   pub polls : List ℕ
   pub waiting : List ℕ
   pub done : Option ℕ
+
+-- the fields of a plain heap, but for its history
+pub record Parts : Type 0 where
+  pub gate : Gate
+  pub open gate use *
+  pub objects : Objects
+  pub open objects use *
+  pub rows : Rows
+  pub open rows use *
+  pub roots : List Bool
+  pub garbage : List Bool
+  pub colours : Colours
+  pub open colours use *
+  pub stock : Stock
+  pub open stock use *
+  pub ends : Ends
+  pub open ends use *
 
 -- the index of the first member of the unit of the object at an index
 abbrev pub first_at : List ℕ → ℕ → ℕ

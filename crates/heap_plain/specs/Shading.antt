@@ -9,7 +9,7 @@ use Rattle.world_model.proofs.ListFacts.{Among}
 use Rattle.heap_plain.specs.Parts.{first_at, kind_at, target_at, is_marking}
 use Rattle.heap_plain.specs.Listing.{chained}
 use Rattle.heap_plain.specs.Notes.{names_at, all_set}
-use Rattle.heap_plain.specs.Sections.{Distinct}
+use Rattle.heap_plain.specs.Lists.{Distinct}
 
 -- ---- one unit
 

@@ -114,35 +114,14 @@ impl<S: Shape> Model for PlainHeap<S> {
     ghost view = { λ h. record { history = h.diary; names = h.names.items } };
 
     ghost invariant = { λ h. IsPlain S.sizes (record {
-      names = h.names.items;
-      firsts = h.firsts.items;
-      sizes = h.sizes.items;
-      next = h.next.items;
-      kinds = h.kinds.items;
-      targets = h.targets.items;
-      plains = h.plains.items;
-      lives = h.lives.items;
+      gate = record { phase = h.phase; frames = h.frames.items };
+      objects = record { names = h.names.items; firsts = h.firsts.items; sizes = h.sizes.items; next = h.next.items; lives = h.lives.items };
+      rows = record { kinds = h.kinds.items; targets = h.targets.items; plains = h.plains.items };
       roots = h.roots.items;
-      marked = h.marked.items;
-      work = h.work.items;
-      scanned = h.scanned;
-      pushed = h.pushed;
-      free = h.free.items;
-      spare = h.spare.items;
-      made = h.made.items;
-      frames = h.frames.items;
-      phase = h.phase;
-      left = h.left;
-      swept = h.swept;
-      order = h.order.items;
-      listed = h.listed;
-      begun = h.begun;
-      from = h.from;
-      kept = h.kept;
-      polls = h.polls.items;
-      waiting = h.waiting.items;
-      done = h.done;
       garbage = h.garbage.items;
+      colours = record { marked = h.marked.items; work = h.work.items; scanned = h.scanned; pushed = h.pushed };
+      stock = record { free = h.free.items; spare = h.spare.items; made = h.made.items };
+      ends = record { left = h.left; swept = h.swept; order = h.order.items; listed = h.listed; begun = h.begun; from = h.from; kept = h.kept; polls = h.polls.items; waiting = h.waiting.items; done = h.done };
     }) h.diary };
 }
 

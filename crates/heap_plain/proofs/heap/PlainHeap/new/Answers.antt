@@ -7,33 +7,23 @@ pub invariant_of-result : goal.invariant_of-result
 invariant_of-result g c =
     let is = g.S.Shape.constants in
     rw c.in_ok-new.ensures (begins_as g.S.Shape.sizes c.LANES-lanes.result c.QUOTA-quota.result c.SLOTS.result _ g.S.Shape.lawful (c.LANES-lanes.ensures ∙ is.lanes) (c.QUOTA-quota.ensures ∙ is.quota) (c.SLOTS.ensures ∙ is.slots) (λ t. record {
-      names = sym c.in_ok-filled.ensures t;
-      firsts = sym c.in_ok-filled-2.ensures t;
-      sizes = sym c.in_ok-filled-3.ensures t;
-      next = sym c.in_ok-filled-4.ensures t;
-      kinds = sym c.in_ok-filled-5.ensures t;
-      targets = sym c.in_ok-filled-6.ensures t;
-      plains = sym c.in_ok-filled-7.ensures t;
-      lives = sym c.in_ok-filled-8.ensures t;
+      gate = record { phase = Idle; frames = sym c.in_ok-filled-14.ensures t };
+      objects = record { names = sym c.in_ok-filled.ensures t; firsts = sym c.in_ok-filled-2.ensures t; sizes = sym c.in_ok-filled-3.ensures t; next = sym c.in_ok-filled-4.ensures t; lives = sym c.in_ok-filled-8.ensures t };
+      rows = record { kinds = sym c.in_ok-filled-5.ensures t; targets = sym c.in_ok-filled-6.ensures t; plains = sym c.in_ok-filled-7.ensures t };
       roots = sym c.in_ok-filled-9.ensures t;
-      marked = sym c.in_ok-filled-10.ensures t;
-      work = sym c.in_ok-filled-11.ensures t;
-      scanned = 0;
-      pushed = 0;
-      free = sym c.in_ok-full_stacks.ensures t;
-      spare = sym c.in_ok-filled-12.ensures t;
-      made = sym c.in_ok-filled-13.ensures t;
-      frames = sym c.in_ok-filled-14.ensures t;
-      phase = Idle;
-      left = 0;
-      swept = 0;
-      order = sym c.in_ok-filled-15.ensures t;
-      listed = 0;
-      begun = 0;
-      from = 0;
-      kept = 0;
-      polls = sym c.in_ok-filled-16.ensures t;
-      waiting = sym c.in_ok-filled-17.ensures t;
-      done = None;
       garbage = sym c.in_ok-filled-18.ensures t;
+      colours = record { marked = sym c.in_ok-filled-10.ensures t; work = sym c.in_ok-filled-11.ensures t; scanned = 0; pushed = 0 };
+      stock = record { free = sym c.in_ok-full_stacks.ensures t; spare = sym c.in_ok-filled-12.ensures t; made = sym c.in_ok-filled-13.ensures t };
+      ends = record {
+        left = 0;
+        swept = 0;
+        order = sym c.in_ok-filled-15.ensures t;
+        listed = 0;
+        begun = 0;
+        from = 0;
+        kept = 0;
+        polls = sym c.in_ok-filled-16.ensures t;
+        waiting = sym c.in_ok-filled-17.ensures t;
+        done = None;
+      };
     }))

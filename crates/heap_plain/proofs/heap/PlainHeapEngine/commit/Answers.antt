@@ -1,9 +1,9 @@
-use Rattle.std.proofs.Common.{◌≡◌, ℕ, refl, sym, ◌∙◌, arith, ◌∷◌, [], length}
+use Rattle.std.proofs.Common.{◌≡◌, ℕ, refl, sym, ◌∙◌, arith, length}
 use Rattle.heap_plain.specs.Types.{Phase, Commit}
-use Rattle.heap_plain.specs.Types.act
 use Rattle.heap_plain.specs.Types.commit
 use Rattle.heap_plain.specs.Notes.{MayEnd}
-use Rattle.heap_plain.proofs.CommitSteps.{refuses_commit, commits_alone, refuses_commit_held, done_facts, commits, commits_held}
+use Rattle.heap_plain.proofs.Resting.{keeps}
+use Rattle.heap_plain.proofs.CommitSteps.{refuses_commit, done_facts, commits}
 use Rattle.heap_plain.proofs.heap.PlainHeapEngine.commit.Goals as goal
 
 pub count_open-requires : goal.count_open-requires
@@ -14,45 +14,30 @@ invariant_of-self g c =
     let m = rw (c.count_open.ensures, c.deref.ensures.value) at c.may_end-reply.ensures in
     let facts = done_facts _ _ _ _ m (sym c.is_done.ensures ∙ c.if-is_done.true) in
     let count : c.len-items.result ≡ length c.self.inside.polls.items = omega (arith, c.len-items.ensures, c.self.inside.polls.ok.0) in
-    rw (c.commit_gc.ensures, facts.0) (commits _ _ _ _ c.self.invariant facts.1 facts.2 facts.3
-    (rw (c.deref-then-is_done-2.ensures.value, c.deref-then-is_done-3.ensures.value) at c.remove_white.ensures) _ _ (rw count at c.fill.ensures) (rw (c.deref-then-is_done.ensures.value) at c.copy.ensures))
+    let removes = rw (c.deref-then-is_done-2.ensures.value, c.deref-then-is_done-3.ensures.value) at c.remove_white.ensures in
+    rw (c.commit_gc.ensures, facts.0) (commits c.self.invariant facts.1 facts.2 facts.3 removes (rw count at c.fill.ensures) (rw (c.deref-then-is_done.ensures.value) at c.copy.ensures)).plain
 
 pub returns-then-is_done-clause-entries : goal.returns-then-is_done-clause-entries
 returns-then-is_done-clause-entries g c =
     let m = rw (c.count_open.ensures, c.deref.ensures.value) at c.may_end-reply.ensures in
     let facts = done_facts _ _ _ _ m (sym c.is_done.ensures ∙ c.if-is_done.true) in
     let count : c.len-items.result ≡ length c.self.inside.polls.items = omega (arith, c.len-items.ensures, c.self.inside.polls.ok.0) in
-    rw (← c.self.view_is, c.commit_gc.ensures, facts.0) (record {
-      acts = act.CommitGc commit.Done ∷ [];
-      call = commits_alone _ _ _ commit.Done c.self.invariant (facts.1, facts.2, facts.3);
-      grown = refl;
-      legal = (commits _ _ _ _ c.self.invariant facts.1 facts.2 facts.3
-          (rw (c.deref-then-is_done-2.ensures.value, c.deref-then-is_done-3.ensures.value) at c.remove_white.ensures) _ _ (rw count at c.fill.ensures) (rw (c.deref-then-is_done.ensures.value) at c.copy.ensures)).legal;
-    })
+    let removes = rw (c.deref-then-is_done-2.ensures.value, c.deref-then-is_done-3.ensures.value) at c.remove_white.ensures in
+    rw (← c.self.view_is, c.commit_gc.ensures, facts.0) (commits c.self.invariant facts.1 facts.2 facts.3 removes (rw count at c.fill.ensures) (rw (c.deref-then-is_done.ensures.value) at c.copy.ensures)).entries
 
 pub returns-then-is_done-clause-held : goal.returns-then-is_done-clause-held
-returns-then-is_done-clause-held g c =
-    let m = rw (c.count_open.ensures, c.deref.ensures.value) at c.may_end-reply.ensures in
-    let facts = done_facts _ _ _ _ m (sym c.is_done.ensures ∙ c.if-is_done.true) in
-    rw (← c.self.view_is, c.commit_gc.ensures, facts.0) (commits_held _ _)
+returns-then-is_done-clause-held g c = let entries = rw (← c.self.view_is) at (returns-then-is_done-clause-entries g c) in rw (← c.self.view_is) (keeps entries refl _)
 
 pub invariant_of-self-else-is_done : goal.invariant_of-self-else-is_done
 invariant_of-self-else-is_done g c =
-    rw c.commit_gc.ensures (refuses_commit _ _ _ _ c.self.invariant (rw (c.count_open.ensures, c.deref.ensures.value) at c.may_end-reply.ensures) (sym c.is_done.ensures ∙ c.if-is_done.false))
+    rw c.commit_gc.ensures (refuses_commit _ c.self.invariant (rw (c.count_open.ensures, c.deref.ensures.value) at c.may_end-reply.ensures) (sym c.is_done.ensures ∙ c.if-is_done.false)).plain
 
 pub returns-clause-entries : goal.returns-clause-entries
 returns-clause-entries g c =
-    let other = sym c.is_done.ensures ∙ c.if-is_done.false in
-    let m = rw (c.count_open.ensures, c.deref.ensures.value) at c.may_end-reply.ensures in
-    rw (← c.self.view_is, c.commit_gc.ensures) (record {
-      acts = act.CommitGc c.may_end-reply.result ∷ [];
-      call = commits_alone _ _ _ _ c.self.invariant m;
-      grown = refl;
-      legal = (refuses_commit _ _ _ _ c.self.invariant m other).legal;
-    })
+    rw (← c.self.view_is, c.commit_gc.ensures) (refuses_commit _ c.self.invariant (rw (c.count_open.ensures, c.deref.ensures.value) at c.may_end-reply.ensures) (sym c.is_done.ensures ∙ c.if-is_done.false)).entries
 
 pub returns-clause-held : goal.returns-clause-held
-returns-clause-held g c = rw (← c.self.view_is, c.commit_gc.ensures) (refuses_commit_held _ _ _ (sym c.is_done.ensures ∙ c.if-is_done.false))
+returns-clause-held g c = let entries = rw (← c.self.view_is) at (returns-clause-entries g c) in rw (← c.self.view_is) (keeps entries refl _)
 
 -- an answer that ends nothing names word 0 and one bit
 one_bit : (phase : Phase) (grey opened : ℕ) (reply : Commit) → MayEnd phase grey opened reply → (word bits : ℕ) → reply ≡ commit.Unfinished word bits → (word ≡ 0) × (bits ≡ 1)

@@ -2,11 +2,12 @@ use Rattle.std.proofs.Common.{◌≡◌, ◌+◌, ◌-◌, refl, ap, ◌∙◌, 
 use Rattle.world_model.specs.World.{made}
 use Rattle.world_model.specs.Histories.{after}
 use Rattle.heap_plain.specs.Types.{Ref}
-use Rattle.heap_plain.proofs.WorldFacts.{appends_one}
+use Rattle.world_model.proofs.Places.{quotas_hold_holds}
+use Rattle.heap_plain.proofs.Resting.{keeps}
 use Rattle.heap_plain.proofs.Fillings.{from_start}
 use Rattle.heap_plain.proofs.Popping.{spare_read, pops}
 use Rattle.heap_plain.proofs.NewNames.{names_of_row}
-use Rattle.heap_plain.proofs.Refusals.{refuses, refuses_held, refusal_alone}
+use Rattle.heap_plain.proofs.Refusals.{refuses, refusal_stays}
 use Rattle.heap_plain.proofs.CreateSteps.{Creation, creates, still_held, new_held}
 use Rattle.heap_plain.proofs.heap.PlainHeapEngine.create.Given.{Over}
 use Rattle.heap_plain.proofs.heap.PlainHeapEngine.create.Goals as goal
@@ -14,23 +15,25 @@ use Rattle.heap_plain.proofs.heap.PlainHeapEngine.create.Goals as goal
 pub overflow_sub-NAMES : goal.overflow_sub-NAMES
 overflow_sub-NAMES g c =
     let frame = rw (← c.self.view_is) at c.requires.frame in
-    let s = c.self.invariant.shows in
-    let is : c.index-made.result.now ≡ made (after c.self.inside.diary) c.args.lane = c.index-made.ensures ∙ s.names.counts.each c.args.lane c.index-made.result.now frame.in_range in
-    omega (arith, s.names.few_names c.args.lane frame.in_range, c.NAMES.ensures, g.S.Shape.constants.names)
+    let is : c.index-made.result.now ≡ made (after c.self.inside.diary) c.args.lane = c.index-made.ensures ∙ c.self.invariant.shows.made.each c.args.lane c.index-made.result.now frame.in_range in
+    omega (arith, (quotas_hold_holds g.S.Shape.sizes c.self.inside.diary c.self.invariant.legal c.args.lane).names, c.NAMES.ensures, g.S.Shape.constants.names)
 
 pub invariant_of-self : goal.invariant_of-self
 invariant_of-self g c =
     let frame = rw (← c.self.view_is) at c.requires.frame in
     let s = c.self.invariant.shows in
-    let is : c.index-made.result.now ≡ made (after c.self.inside.diary) c.args.lane = c.index-made.ensures ∙ s.names.counts.each c.args.lane c.index-made.result.now frame.in_range in
-    rw c.refuse.ensures (refuses _ _ _ _ _ _ _ _ _ c.self.invariant frame.in_range frame.opened is
-    (ap (λ k. k - c.index-made.result.now) (c.NAMES.ensures ∙ g.S.Shape.constants.names)) (spare_read s.free _ _ frame.in_range c.index-spare.ensures) c.in-Err.ensures)
+    let is : c.index-made.result.now ≡ made (after c.self.inside.diary) c.args.lane = c.index-made.ensures ∙ s.made.each c.args.lane c.index-made.result.now frame.in_range in
+    rw c.refuse.ensures (refuses _ _ c.self.invariant frame is (ap (λ k. k - c.index-made.result.now) (c.NAMES.ensures ∙ g.S.Shape.constants.names)) (spare_read s.free _ _ frame.in_range c.index-spare.ensures) c.in-Err.ensures).plain
 
 pub returns-in-Err-clause-entries : goal.returns-in-Err-clause-entries
-returns-in-Err-clause-entries g c = rw (← c.self.view_is) (appends_one _ _ _ _ _ (refusal_alone c.self.inside.diary c.args.lane _ _) c.refuse.ensures (invariant_of-self g c).legal)
+returns-in-Err-clause-entries g c =
+    let frame = rw (← c.self.view_is) at c.requires.frame in
+    let s = c.self.invariant.shows in
+    let is : c.index-made.result.now ≡ made (after c.self.inside.diary) c.args.lane = c.index-made.ensures ∙ s.made.each c.args.lane c.index-made.result.now frame.in_range in
+    rw (← c.self.view_is, c.refuse.ensures) (refuses _ _ c.self.invariant frame is (ap (λ k. k - c.index-made.result.now) (c.NAMES.ensures ∙ g.S.Shape.constants.names)) (spare_read s.free _ _ frame.in_range c.index-spare.ensures) c.in-Err.ensures).entries
 
 pub returns-in-Err-clause-held : goal.returns-in-Err-clause-held
-returns-in-Err-clause-held g c = rw (← c.self.view_is, c.refuse.ensures) (refuses_held _ _ _ _ _)
+returns-in-Err-clause-held g c = let entries = rw (← c.self.view_is) at (returns-in-Err-clause-entries g c) in rw (← c.self.view_is) (keeps entries (refusal_stays _ _) _)
 
 pub popped-head-requires-clause-room : goal.popped-head-requires-clause-room
 popped-head-requires-clause-room g c =
@@ -124,35 +127,14 @@ answer-requires-clause-room g c =
 
 -- what the calls before the last one have written
 creation : (g : Over) (c : goal.After-out-1 g) → Creation g.S.Shape.sizes (record {
-  names = c.self.inside.names.items;
-  firsts = c.self.inside.firsts.items;
-  sizes = c.self.inside.sizes.items;
-  next = c.self.inside.next.items;
-  kinds = c.self.inside.kinds.items;
-  targets = c.self.inside.targets.items;
-  plains = c.self.inside.plains.items;
-  lives = c.self.inside.lives.items;
+  gate = record { phase = c.self.inside.phase; frames = c.self.inside.frames.items };
+  objects = record { names = c.self.inside.names.items; firsts = c.self.inside.firsts.items; sizes = c.self.inside.sizes.items; next = c.self.inside.next.items; lives = c.self.inside.lives.items };
+  rows = record { kinds = c.self.inside.kinds.items; targets = c.self.inside.targets.items; plains = c.self.inside.plains.items };
   roots = c.self.inside.roots.items;
-  marked = c.self.inside.marked.items;
-  work = c.self.inside.work.items;
-  scanned = c.self.inside.scanned;
-  pushed = c.self.inside.pushed;
-  free = c.self.inside.free.items;
-  spare = c.self.inside.spare.items;
-  made = c.self.inside.made.items;
-  frames = c.self.inside.frames.items;
-  phase = c.self.inside.phase;
-  left = c.self.inside.left;
-  swept = c.self.inside.swept;
-  order = c.self.inside.order.items;
-  listed = c.self.inside.listed;
-  begun = c.self.inside.begun;
-  from = c.self.inside.from;
-  kept = c.self.inside.kept;
-  polls = c.self.inside.polls.items;
-  waiting = c.self.inside.waiting.items;
-  done = c.self.inside.done;
   garbage = c.self.inside.garbage.items;
+  colours = record { marked = c.self.inside.marked.items; work = c.self.inside.work.items; scanned = c.self.inside.scanned; pushed = c.self.inside.pushed };
+  stock = record { free = c.self.inside.free.items; spare = c.self.inside.spare.items; made = c.self.inside.made.items };
+  ends = record { left = c.self.inside.left; swept = c.self.inside.swept; order = c.self.inside.order.items; listed = c.self.inside.listed; begun = c.self.inside.begun; from = c.self.inside.from; kept = c.self.inside.kept; polls = c.self.inside.polls.items; waiting = c.self.inside.waiting.items; done = c.self.inside.done };
 }) c.self.inside.diary c.args.lane c.index-made.result.now c.args.kinds.now c.place.new.names.items c.fill_popped.new.items.items c.link.new.next.items c.classify.new.stored.items c.fill_rows.new.cells.items c.fill_rows-2.new.cells.items c.fill_popped-2.new.items.items c.fill_popped-3.new.items.items
 creation g c =
     let frame = rw (← c.self.view_is) at c.requires.frame in
@@ -162,9 +144,8 @@ creation g c =
     let now = spare_read s.free _ _ frame.in_range c.index-spare.ensures in
     record {
       was = c.self.invariant;
-      lane = frame.in_range;
-      opened = frame.opened;
-      is = c.index-made.ensures ∙ s.names.counts.each c.args.lane c.index-made.result.now frame.in_range;
+      frame = frame;
+      is = c.index-made.ensures ∙ s.made.each c.args.lane c.index-made.result.now frame.in_range;
       some = c.requires.some;
       few = c.requires.few;
       lawful = c.requires.lawful;
@@ -182,11 +163,11 @@ creation g c =
 
 pub invariant_of-self-2 : goal.invariant_of-self-2
 invariant_of-self-2 g c =
-    let now = spare_read c.self.invariant.shows.free _ _ (creation g c).lane c.index-spare.ensures in
-    rw (c.make.ensures, c.begin_unit.ensures.size, c.begin_unit.ensures.mark, c.popped-head.ensures, c.deref.ensures.value, c.QUOTA.ensures, g.S.Shape.constants.quota, now) (creates (creation g c))
+    let now = spare_read c.self.invariant.shows.free _ _ (creation g c).frame.in_range c.index-spare.ensures in
+    rw (c.make.ensures, c.begin_unit.ensures.size, c.begin_unit.ensures.mark, c.popped-head.ensures, c.deref.ensures.value, c.QUOTA.ensures, g.S.Shape.constants.quota, now) (creates (creation g c)).plain
 
 pub returns-clause-entries : goal.returns-clause-entries
-returns-clause-entries g c = rw (← c.self.view_is, ← (creation g c).is) (appends_one _ _ _ _ _ refl c.make.ensures (invariant_of-self-2 g c).legal)
+returns-clause-entries g c = rw (← c.self.view_is, ← (creation g c).is, c.make.ensures) (creates (creation g c)).entries
 
 pub returns-clause-names : goal.returns-clause-names
 returns-clause-names g c =
@@ -195,7 +176,7 @@ returns-clause-names g c =
 
 pub returns-clause-given : goal.returns-clause-given
 returns-clause-given g c = λ i other below.
-    let now = spare_read c.self.invariant.shows.free _ _ (creation g c).lane c.index-spare.ensures in
+    let now = spare_read c.self.invariant.shows.free _ _ (creation g c).frame.in_range c.index-spare.ensures in
     let there = from_start c.answer.ensures i other (omega (arith, c.answer.ensures.len)) in
     rw (c.make.ensures, there, c.deref-10.ensures.value, c.QUOTA.ensures, g.S.Shape.constants.quota, now) (new_held (creation g c) i (omega (arith, c.answer.ensures.len, c.requires.room)))
 

@@ -4,35 +4,14 @@ use Rattle.heap_plain.proofs.heap.PlainHeapEngine.dissolve.Given as goal
 
 abbrev pub invariant-loop-left : goal.invariant-loop-left
 invariant-loop-left g l = IsParting g.S.Shape.sizes l.fn.self l.lane l.at.name l.head l.count l.left (record {
-  names = l.self-inside.names.items;
-  firsts = l.self-inside.firsts.items;
-  sizes = l.self-inside.sizes.items;
-  next = l.self-inside.next.items;
-  kinds = l.self-inside.kinds.items;
-  targets = l.self-inside.targets.items;
-  plains = l.self-inside.plains.items;
-  lives = l.self-inside.lives.items;
+  gate = record { phase = l.self-inside.phase; frames = l.self-inside.frames.items };
+  objects = record { names = l.self-inside.names.items; firsts = l.self-inside.firsts.items; sizes = l.self-inside.sizes.items; next = l.self-inside.next.items; lives = l.self-inside.lives.items };
+  rows = record { kinds = l.self-inside.kinds.items; targets = l.self-inside.targets.items; plains = l.self-inside.plains.items };
   roots = l.self-inside.roots.items;
-  marked = l.self-inside.marked.items;
-  work = l.self-inside.work.items;
-  scanned = l.self-inside.scanned;
-  pushed = l.self-inside.pushed;
-  free = l.self-inside.free.items;
-  spare = l.self-inside.spare.items;
-  made = l.self-inside.made.items;
-  frames = l.self-inside.frames.items;
-  phase = l.self-inside.phase;
-  left = l.self-inside.left;
-  swept = l.self-inside.swept;
-  order = l.self-inside.order.items;
-  listed = l.self-inside.listed;
-  begun = l.self-inside.begun;
-  from = l.self-inside.from;
-  kept = l.self-inside.kept;
-  polls = l.self-inside.polls.items;
-  waiting = l.self-inside.waiting.items;
-  done = l.self-inside.done;
   garbage = l.self-inside.garbage.items;
+  colours = record { marked = l.self-inside.marked.items; work = l.self-inside.work.items; scanned = l.self-inside.scanned; pushed = l.self-inside.pushed };
+  stock = record { free = l.self-inside.free.items; spare = l.self-inside.spare.items; made = l.self-inside.made.items };
+  ends = record { left = l.self-inside.left; swept = l.self-inside.swept; order = l.self-inside.order.items; listed = l.self-inside.listed; begun = l.self-inside.begun; from = l.self-inside.from; kept = l.self-inside.kept; polls = l.self-inside.polls.items; waiting = l.self-inside.waiting.items; done = l.self-inside.done };
 }) l.self-inside.diary
 
 abbrev pub decreases-loop-left : goal.decreases-loop-left

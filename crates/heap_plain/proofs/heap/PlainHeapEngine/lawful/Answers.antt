@@ -1,4 +1,4 @@
-use Rattle.std.proofs.Common.{◌≡◌, ◌∙◌, sym, not, ap, Some}
+use Rattle.std.proofs.Common.{◌≡◌, ◌∙◌, sym, ap, Some}
 use Rattle.heap_plain.specs.Parts.{name_at}
 use Rattle.heap_plain.proofs.heap.PlainHeapEngine.lawful.Goals as goal
 
@@ -6,7 +6,7 @@ pub returns-clause-legal : goal.returns-clause-legal
 returns-clause-legal g c = rw (← c.self.view_is) c.self.invariant.legal
 
 pub returns-clause-closed : goal.returns-clause-closed
-returns-clause-closed g c = rw (← c.self.view_is) (ap not c.self.invariant.shows.frames.alone)
+returns-clause-closed g c = rw (← c.self.view_is) c.self.invariant.rest.between.closed
 
 pub returns-clause-range : goal.returns-clause-range
 returns-clause-range g c lane r held = let h = rw (← c.self.view_is) at held in (c.self.invariant.shows.names.places r.index r.name h.placed).at

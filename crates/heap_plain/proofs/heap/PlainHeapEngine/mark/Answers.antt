@@ -1,6 +1,6 @@
 use Rattle.std.proofs.Common.{◌≡◌, ◌<◌, ◌≤◌, arith, get_or}
 use Rattle.std.proofs.lemmas.List.{get_or_read}
-use Rattle.heap_plain.proofs.MarkSlices.{mark_starts, head_below, head_named, chain_below, lead_named, mark_scans, sliced_invariant, sliced_appends, sliced_held}
+use Rattle.heap_plain.proofs.MarkSlices.{mark_starts, head_below, head_named, chain_below, lead_named, mark_scans, slice_ends, slice_held}
 use Rattle.heap_plain.proofs.heap.PlainHeapEngine.mark.Given.{Over}
 use Rattle.heap_plain.proofs.heap.PlainHeapEngine.mark.Goals.{then-loop-self-test+else-scanned-budget, else-loop-self-test}
 use Rattle.heap_plain.proofs.heap.PlainHeapEngine.mark.Goals as goal
@@ -79,10 +79,10 @@ early g c less = elim c.loop-self-test.branch [
 ]
 
 pub invariant_of-self : goal.invariant_of-self
-invariant_of-self g c = rw c.slice.ensures (sliced_invariant c.loop-self.invariant.slicing c.requires.marker _ c.stop_of.ensures (early g c))
+invariant_of-self g c = rw c.slice.ensures (slice_ends c.loop-self.invariant.slicing c.requires.marker _ c.stop_of.ensures (early g c)).plain
 
 pub returns-clause-entries : goal.returns-clause-entries
-returns-clause-entries g c = rw c.slice.ensures (sliced_appends c.loop-self.invariant.slicing c.requires.marker _ c.stop_of.ensures (early g c))
+returns-clause-entries g c = rw c.slice.ensures (slice_ends c.loop-self.invariant.slicing c.requires.marker _ c.stop_of.ensures (early g c)).entries
 
 pub returns-clause-held : goal.returns-clause-held
-returns-clause-held g c = rw c.slice.ensures (sliced_held c.loop-self.invariant.slicing c.requires.marker _ c.stop_of.ensures (early g c))
+returns-clause-held g c = rw c.slice.ensures (slice_held c.loop-self.invariant.slicing c.requires.marker _ c.stop_of.ensures (early g c))

@@ -7,35 +7,14 @@ abbrev pub invariant-loop-self : goal.invariant-loop-self
 invariant-loop-self g l = record {
   small : l.scanned ≤ 1024 * l.self-inside.scanned;
   slicing : IsSlicing g.S.Shape.sizes l.fn.self l.marker l.budget l.scanned (record {
-    names = l.self-inside.names.items;
-    firsts = l.self-inside.firsts.items;
-    sizes = l.self-inside.sizes.items;
-    next = l.self-inside.next.items;
-    kinds = l.self-inside.kinds.items;
-    targets = l.self-inside.targets.items;
-    plains = l.self-inside.plains.items;
-    lives = l.self-inside.lives.items;
+    gate = record { phase = l.self-inside.phase; frames = l.self-inside.frames.items };
+    objects = record { names = l.self-inside.names.items; firsts = l.self-inside.firsts.items; sizes = l.self-inside.sizes.items; next = l.self-inside.next.items; lives = l.self-inside.lives.items };
+    rows = record { kinds = l.self-inside.kinds.items; targets = l.self-inside.targets.items; plains = l.self-inside.plains.items };
     roots = l.self-inside.roots.items;
-    marked = l.self-inside.marked.items;
-    work = l.self-inside.work.items;
-    scanned = l.self-inside.scanned;
-    pushed = l.self-inside.pushed;
-    free = l.self-inside.free.items;
-    spare = l.self-inside.spare.items;
-    made = l.self-inside.made.items;
-    frames = l.self-inside.frames.items;
-    phase = l.self-inside.phase;
-    left = l.self-inside.left;
-    swept = l.self-inside.swept;
-    order = l.self-inside.order.items;
-    listed = l.self-inside.listed;
-    begun = l.self-inside.begun;
-    from = l.self-inside.from;
-    kept = l.self-inside.kept;
-    polls = l.self-inside.polls.items;
-    waiting = l.self-inside.waiting.items;
-    done = l.self-inside.done;
     garbage = l.self-inside.garbage.items;
+    colours = record { marked = l.self-inside.marked.items; work = l.self-inside.work.items; scanned = l.self-inside.scanned; pushed = l.self-inside.pushed };
+    stock = record { free = l.self-inside.free.items; spare = l.self-inside.spare.items; made = l.self-inside.made.items };
+    ends = record { left = l.self-inside.left; swept = l.self-inside.swept; order = l.self-inside.order.items; listed = l.self-inside.listed; begun = l.self-inside.begun; from = l.self-inside.from; kept = l.self-inside.kept; polls = l.self-inside.polls.items; waiting = l.self-inside.waiting.items; done = l.self-inside.done };
   }) l.self-inside.diary;
 }
 

@@ -2,24 +2,23 @@ use Rattle.std.proofs.Common.{◌≡◌, ◌<◌, ◌^◌, refl, arith, get_or, 
 use Rattle.std.proofs.lemmas.List.{get_or_read}
 use Rattle.world_model.specs.Sizes.{item_count}
 use Rattle.world_model.specs.Histories.{after}
-use Rattle.heap_plain.proofs.WorldFacts.{appends_one}
-use Rattle.heap_plain.proofs.Purges.{purge_starts, begin_named, begin_below, purge_begins, ask_from, ask_kept, ask_named, ask_below, ask_head, ask_waits, purge_refused, purge_agreed, release_below, release_named, release_few, release_chain, release_can, purge_released, purge_ends, purge_appends, purge_calls, purge_tested, purge_held, waits_plain, waits_alone, waits_calls, waits_held}
+use Rattle.heap_plain.proofs.Resting.{keeps}
+use Rattle.heap_plain.proofs.Purges.{purge_starts, begin_named, begin_below, purge_begins, ask_from, ask_kept, ask_named, ask_below, ask_head, ask_waits, purge_refused, purge_agreed, release_below, release_named, release_few, release_chain, release_can, purge_released, purge_ends, purge_calls, purge_tested, purge_held, waits, waits_calls}
 use Rattle.heap_plain.proofs.heap.PlainHeapEngine.purge.Given.{Over}
 use Rattle.heap_plain.proofs.heap.PlainHeapEngine.purge.Goals.{then-loop-steps-test+else-self-gt0, else-loop-steps-test}
 use Rattle.heap_plain.proofs.heap.PlainHeapEngine.purge.Goals as goal
 
 pub invariant_of-self : goal.invariant_of-self
-invariant_of-self g c = rw c.purge_gc.ensures (waits_plain _ _ _ _ c.self.invariant c.in-Gathering.is)
+invariant_of-self g c = rw c.purge_gc.ensures (waits _ c.self.invariant c.in-Gathering.is).plain
 
 pub returns-in-Gathering-clause-entries : goal.returns-in-Gathering-clause-entries
-returns-in-Gathering-clause-entries g c =
-    rw (← c.self.view_is) (appends_one _ _ _ _ _ (waits_alone c.args.budget) c.purge_gc.ensures (rw c.purge_gc.ensures (waits_plain _ _ _ c.args.budget c.self.invariant c.in-Gathering.is).legal))
+returns-in-Gathering-clause-entries g c = rw (← c.self.view_is, c.purge_gc.ensures) (waits _ c.self.invariant c.in-Gathering.is).entries
 
 pub returns-in-Gathering-clause-calls : goal.returns-in-Gathering-clause-calls
 returns-in-Gathering-clause-calls g c = rw (← c.self.view_is, c.purge_gc.ensures) (waits_calls (after c.self.inside.diary) c.self.inside.diary c.args.budget (g.D.Hooks.calls c.args.hooks.now))
 
 pub returns-in-Gathering-clause-held : goal.returns-in-Gathering-clause-held
-returns-in-Gathering-clause-held g c = rw (← c.self.view_is, c.purge_gc.ensures) (waits_held _ _ _)
+returns-in-Gathering-clause-held g c = let entries = rw (← c.self.view_is) at (returns-in-Gathering-clause-entries g c) in rw (← c.self.view_is) (keeps entries refl _)
 
 pub loop-steps-init : goal.loop-steps-init
 loop-steps-init g c = rw (← c.self.view_is) (record { within = omega arith; purging = purge_starts _ _ _ _ _ c.self.invariant refl c.in_default.not-Gathering })
@@ -172,14 +171,14 @@ early g c less = elim c.loop-steps-test.branch [
 ]
 
 pub invariant_of-self-2 : goal.invariant_of-self-2
-invariant_of-self-2 g c = rw c.purge_gc-2.ensures (purge_ends c.loop-steps.invariant.purging c.args.budget c.loop-steps.invariant.within (early g c))
+invariant_of-self-2 g c = rw c.purge_gc-2.ensures (purge_ends c.loop-steps.invariant.purging c.args.budget c.loop-steps.invariant.within (early g c)).plain
 
 pub returns : goal.returns
 returns g c =
     let i = c.loop-steps.invariant.purging in
     let within = c.loop-steps.invariant.within in
     rw c.purge_gc-2.ensures (record {
-      entries = purge_appends i c.args.budget within (early g c);
+      entries = (purge_ends i c.args.budget within (early g c)).entries;
       calls = purge_calls i c.args.budget within (early g c);
       tested = purge_tested i c.args.budget within (early g c);
       same_test = i.same;

@@ -2,18 +2,18 @@ use Rattle.std.proofs.Common.{◌≡◌, refl, ap, sym, ◌∙◌, arith, List, 
 use Rattle.std.proofs.lemmas.List.{length-take-le}
 use Rattle.heap_plain.specs.Types.{Name}
 use Rattle.heap_plain.specs.Sweeping.{removed_names}
-use Rattle.heap_plain.proofs.WorldFacts.{appends_one}
-use Rattle.heap_plain.proofs.SweepSteps.{refuses_sweep, sweep_held, can_list, sweeps_more, sweeps_all}
+use Rattle.heap_plain.proofs.Resting.{keeps}
+use Rattle.heap_plain.proofs.SweepSteps.{refuses_sweep, can_list, sweeps_more, sweeps_all}
 use Rattle.heap_plain.proofs.heap.PlainHeapEngine.sweep.Goals as goal
 
 pub invariant_of-self : goal.invariant_of-self
-invariant_of-self g c = rw c.sweep.ensures (refuses_sweep _ _ _ _ c.self.invariant c.in_default.not-Gathering)
+invariant_of-self g c = rw c.sweep.ensures (refuses_sweep _ _ _ _ c.self.invariant c.in_default.not-Gathering).plain
 
 pub returns-in_default-clause-entries : goal.returns-in_default-clause-entries
-returns-in_default-clause-entries g c = rw (← c.self.view_is) (appends_one _ _ _ _ _ refl c.sweep.ensures (rw c.sweep.ensures (refuses_sweep _ _ _ _ c.self.invariant c.in_default.not-Gathering).legal))
+returns-in_default-clause-entries g c = rw (← c.self.view_is, c.sweep.ensures) (refuses_sweep _ _ _ _ c.self.invariant c.in_default.not-Gathering).entries
 
 pub returns-in_default-clause-held : goal.returns-in_default-clause-held
-returns-in_default-clause-held g c = rw (← c.self.view_is, c.sweep.ensures) (sweep_held _ _ _ _ _)
+returns-in_default-clause-held g c = let entries = rw (← c.self.view_is) at (returns-in_default-clause-entries g c) in rw (← c.self.view_is) (keeps entries refl _)
 
 pub overflow_add-self : goal.overflow_add-self
 overflow_add-self g c =
@@ -26,7 +26,7 @@ list_units-self-inside-requires g c =
     let len : length (removed_names c.self.inside.names.items c.self.inside.lives.items c.self.inside.swept c.find_removed-looked.result.0) ≡ c.find_removed-looked.result.1 =
     ap (λ (xs : List Name). length xs) (sym f.found) ∙ length-take-le _ _ (omega (arith, f.room, c.find_removed-looked.auto.found)) in
     rw (c.deref-3.ensures.value, c.deref-4.ensures.value, c.deref-5.ensures.value, c.deref-6.ensures.value) (record {
-      can = can_list _ _ _ _ _ _ c.self.invariant c.in-Gathering.is f.within f.few f.range len (omega (arith, g.S.Shape.lawful.few_items));
+      can = can_list c.self.invariant c.in-Gathering.is f.within f.few f.range len (omega (arith, g.S.Shape.lawful.few_items));
     })
 
 pub invariant_of-self-then-self-len : goal.invariant_of-self-then-self-len
@@ -34,31 +34,35 @@ invariant_of-self-then-self-len g c =
     let f = rw (c.deref.ensures.value, c.deref-2.ensures.value) at c.find_removed-looked.ensures in
     let len : length (removed_names c.self.inside.names.items c.self.inside.lives.items c.self.inside.swept c.find_removed-looked.result.0) ≡ c.find_removed-looked.result.1 =
     ap (λ (xs : List Name). length xs) (sym f.found) ∙ length-take-le _ _ (omega (arith, f.room, c.find_removed-looked.auto.found)) in
-    rw (c.sweep-then-self-len.ensures, f.found) (sweeps_more _ _ _ _ _ _ c.self.invariant c.in-Gathering.is f.within f.few f.range len (omega (arith, g.S.Shape.lawful.few_items)) _ _ (rw (c.deref-3.ensures.value, c.deref-4.ensures.value, c.deref-5.ensures.value, c.deref-6.ensures.value) at c.list_units-self-inside.ensures) (omega (arith, c.if-self-len.true, c.len.ensures, c.self.inside.lives.ok.0)))
+    let listed = rw (c.deref-3.ensures.value, c.deref-4.ensures.value, c.deref-5.ensures.value, c.deref-6.ensures.value) at c.list_units-self-inside.ensures in
+    rw (c.sweep-then-self-len.ensures, f.found) (sweeps_more c.self.invariant c.in-Gathering.is f.within f.few f.range len (omega (arith, g.S.Shape.lawful.few_items)) listed (omega (arith, c.if-self-len.true, c.len.ensures, c.self.inside.lives.ok.0))).plain
 
 pub returns-then-self-len-clause-entries : goal.returns-then-self-len-clause-entries
 returns-then-self-len-clause-entries g c =
     let f = rw (c.deref.ensures.value, c.deref-2.ensures.value) at c.find_removed-looked.ensures in
     let len : length (removed_names c.self.inside.names.items c.self.inside.lives.items c.self.inside.swept c.find_removed-looked.result.0) ≡ c.find_removed-looked.result.1 =
     ap (λ (xs : List Name). length xs) (sym f.found) ∙ length-take-le _ _ (omega (arith, f.room, c.find_removed-looked.auto.found)) in
-    rw (← c.self.view_is, c.sweep-then-self-len.ensures, f.found) (appends_one _ _ _ _ _ refl refl (sweeps_more _ _ _ _ _ _ c.self.invariant c.in-Gathering.is f.within f.few f.range len (omega (arith, g.S.Shape.lawful.few_items)) _ _ (rw (c.deref-3.ensures.value, c.deref-4.ensures.value, c.deref-5.ensures.value, c.deref-6.ensures.value) at c.list_units-self-inside.ensures) (omega (arith, c.if-self-len.true, c.len.ensures, c.self.inside.lives.ok.0))).legal)
+    let listed = rw (c.deref-3.ensures.value, c.deref-4.ensures.value, c.deref-5.ensures.value, c.deref-6.ensures.value) at c.list_units-self-inside.ensures in
+    rw (← c.self.view_is, c.sweep-then-self-len.ensures, f.found) (sweeps_more c.self.invariant c.in-Gathering.is f.within f.few f.range len (omega (arith, g.S.Shape.lawful.few_items)) listed (omega (arith, c.if-self-len.true, c.len.ensures, c.self.inside.lives.ok.0))).entries
 
 pub returns-then-self-len-clause-held : goal.returns-then-self-len-clause-held
-returns-then-self-len-clause-held g c = rw (← c.self.view_is, c.sweep-then-self-len.ensures) (sweep_held _ _ _ _ _)
+returns-then-self-len-clause-held g c = let entries = rw (← c.self.view_is) at (returns-then-self-len-clause-entries g c) in rw (← c.self.view_is) (keeps entries refl _)
 
 pub invariant_of-self-2 : goal.invariant_of-self-2
 invariant_of-self-2 g c =
     let f = rw (c.deref.ensures.value, c.deref-2.ensures.value) at c.find_removed-looked.ensures in
     let len : length (removed_names c.self.inside.names.items c.self.inside.lives.items c.self.inside.swept c.find_removed-looked.result.0) ≡ c.find_removed-looked.result.1 =
     ap (λ (xs : List Name). length xs) (sym f.found) ∙ length-take-le _ _ (omega (arith, f.room, c.find_removed-looked.auto.found)) in
-    rw (c.sweep-2.ensures, f.found) (sweeps_all _ _ _ _ _ _ c.self.invariant c.in-Gathering.is f.within f.few f.range len (omega (arith, g.S.Shape.lawful.few_items)) _ _ (rw (c.deref-3.ensures.value, c.deref-4.ensures.value, c.deref-5.ensures.value, c.deref-6.ensures.value) at c.list_units-self-inside.ensures) (omega (arith, c.if-self-len.false, c.len.ensures, c.self.inside.lives.ok.0)))
+    let listed = rw (c.deref-3.ensures.value, c.deref-4.ensures.value, c.deref-5.ensures.value, c.deref-6.ensures.value) at c.list_units-self-inside.ensures in
+    rw (c.sweep-2.ensures, f.found) (sweeps_all c.self.invariant c.in-Gathering.is f.within f.few f.range len (omega (arith, g.S.Shape.lawful.few_items)) listed (omega (arith, c.if-self-len.false, c.len.ensures, c.self.inside.lives.ok.0))).plain
 
 pub returns-clause-entries : goal.returns-clause-entries
 returns-clause-entries g c =
     let f = rw (c.deref.ensures.value, c.deref-2.ensures.value) at c.find_removed-looked.ensures in
     let len : length (removed_names c.self.inside.names.items c.self.inside.lives.items c.self.inside.swept c.find_removed-looked.result.0) ≡ c.find_removed-looked.result.1 =
     ap (λ (xs : List Name). length xs) (sym f.found) ∙ length-take-le _ _ (omega (arith, f.room, c.find_removed-looked.auto.found)) in
-    rw (← c.self.view_is, c.sweep-2.ensures, f.found) (appends_one _ _ _ _ _ refl refl (sweeps_all _ _ _ _ _ _ c.self.invariant c.in-Gathering.is f.within f.few f.range len (omega (arith, g.S.Shape.lawful.few_items)) _ _ (rw (c.deref-3.ensures.value, c.deref-4.ensures.value, c.deref-5.ensures.value, c.deref-6.ensures.value) at c.list_units-self-inside.ensures) (omega (arith, c.if-self-len.false, c.len.ensures, c.self.inside.lives.ok.0))).legal)
+    let listed = rw (c.deref-3.ensures.value, c.deref-4.ensures.value, c.deref-5.ensures.value, c.deref-6.ensures.value) at c.list_units-self-inside.ensures in
+    rw (← c.self.view_is, c.sweep-2.ensures, f.found) (sweeps_all c.self.invariant c.in-Gathering.is f.within f.few f.range len (omega (arith, g.S.Shape.lawful.few_items)) listed (omega (arith, c.if-self-len.false, c.len.ensures, c.self.inside.lives.ok.0))).entries
 
 pub returns-clause-held : goal.returns-clause-held
-returns-clause-held g c = rw (← c.self.view_is, c.sweep-2.ensures) (sweep_held _ _ _ _ _)
+returns-clause-held g c = let entries = rw (← c.self.view_is) at (returns-clause-entries g c) in rw (← c.self.view_is) (keeps entries refl _)

@@ -1,6 +1,7 @@
-use Rattle.std.proofs.Common.{◌≡◌, None, arith}
+use Rattle.std.proofs.Common.{◌≡◌, refl, None, arith}
 use Rattle.std.proofs.lemmas.List.{get_or_read}
 use Rattle.heap_plain.specs.Parts.{target_at}
+use Rattle.heap_plain.proofs.Resting.{keeps}
 use Rattle.heap_plain.proofs.StoreSteps.{ref_below, target_place, target_named, stored_index, stored_room, writes}
 use Rattle.heap_plain.proofs.heap.PlainHeapEngine.write_ref.Goals as goal
 
@@ -9,7 +10,7 @@ shade_target-self-inside-requires-clause-index g c =
     let frame = rw (← c.self.view_is) at c.requires.frame in
     let held = rw (← c.self.view_is) at c.requires.at in
     let to = rw (← c.self.view_is) at c.requires.to in
-    rw c.deref.ensures.value (stored_index _ _ _ _ _ c.self.invariant frame.in_range frame.opened held c.args.to to)
+    rw c.deref.ensures.value (stored_index c.self.invariant frame held c.args.to to)
 
 pub shade_target-self-inside-requires-clause-heads : goal.shade_target-self-inside-requires-clause-heads
 shade_target-self-inside-requires-clause-heads g c = rw c.deref.ensures.value (λ i. omega (arith, c.self.invariant.shows.units.in_range i, c.self.invariant.shows.work.marked_len))
@@ -19,15 +20,15 @@ shade_target-self-inside-requires-clause-room g c =
     let frame = rw (← c.self.view_is) at c.requires.frame in
     let held = rw (← c.self.view_is) at c.requires.at in
     let to = rw (← c.self.view_is) at c.requires.to in
-    rw c.deref.ensures.value (stored_room _ _ _ _ _ c.self.invariant frame.in_range frame.opened held c.args.to to)
+    rw c.deref.ensures.value (stored_room c.self.invariant frame held c.args.to to)
 
 pub index-requires : goal.index-requires
 index-requires g c =
     let frame = rw (← c.self.view_is) at c.requires.frame in
     let held = rw (← c.self.view_is) at c.requires.at in
     let slot = rw (← c.self.view_is) at c.requires.slot in
-    let low = ref_below _ _ _ _ _ c.self.invariant frame.in_range frame.opened held c.args.slot slot in
-    let place = target_place _ _ _ _ _ c.self.invariant frame.in_range frame.opened held c.args.slot low in
+    let low = ref_below c.self.invariant frame held c.args.slot slot in
+    let place = target_place c.self.invariant frame held c.args.slot low in
     rw (c.SLOTS.ensures, g.S.Shape.constants.slots) (omega (arith, place, c.self.inside.targets.ok.0))
 
 pub referred-old-requires : goal.referred-old-requires
@@ -35,19 +36,19 @@ referred-old-requires g c =
     let frame = rw (← c.self.view_is) at c.requires.frame in
     let held = rw (← c.self.view_is) at c.requires.at in
     let slot = rw (← c.self.view_is) at c.requires.slot in
-    let low = ref_below _ _ _ _ _ c.self.invariant frame.in_range frame.opened held c.args.slot slot in
-    let place = target_place _ _ _ _ _ c.self.invariant frame.in_range frame.opened held c.args.slot low in
+    let low = ref_below c.self.invariant frame held c.args.slot slot in
+    let place = target_place c.self.invariant frame held c.args.slot low in
     let cell : c.index.result.now ≡ target_at g.S.Shape.sizes.slots c.self.inside.targets.items c.args.at.index c.args.slot =
     get_or_read c.self.inside.targets.items _ _ place (rw (c.SLOTS.ensures, g.S.Shape.constants.slots) at c.index.ensures) None in
-    rw (c.deref-2.ensures.value, cell) (target_named _ _ _ _ _ c.self.invariant frame.in_range frame.opened held c.args.slot low)
+    rw (c.deref-2.ensures.value, cell) (target_named c.self.invariant frame held c.args.slot low)
 
 pub index_mut-requires : goal.index_mut-requires
 index_mut-requires g c =
     let frame = rw (← c.self.view_is) at c.requires.frame in
     let held = rw (← c.self.view_is) at c.requires.at in
     let slot = rw (← c.self.view_is) at c.requires.slot in
-    let low = ref_below _ _ _ _ _ c.self.invariant frame.in_range frame.opened held c.args.slot slot in
-    let place = target_place _ _ _ _ _ c.self.invariant frame.in_range frame.opened held c.args.slot low in
+    let low = ref_below c.self.invariant frame held c.args.slot slot in
+    let place = target_place c.self.invariant frame held c.args.slot low in
     rw (c.SLOTS.ensures, g.S.Shape.constants.slots) (omega (arith, place, c.self.inside.targets.ok.0))
 
 pub invariant_of-self : goal.invariant_of-self
@@ -55,53 +56,39 @@ invariant_of-self g c =
     let frame = rw (← c.self.view_is) at c.requires.frame in
     let held = rw (← c.self.view_is) at c.requires.at in
     let slot = rw (← c.self.view_is) at c.requires.slot in
-    let low = ref_below _ _ _ _ _ c.self.invariant frame.in_range frame.opened held c.args.slot slot in
-    let place = target_place _ _ _ _ _ c.self.invariant frame.in_range frame.opened held c.args.slot low in
+    let place = target_place c.self.invariant frame held c.args.slot (ref_below c.self.invariant frame held c.args.slot slot) in
     let to = rw (← c.self.view_is) at c.requires.to in
     let cell : c.index.result.now ≡ target_at g.S.Shape.sizes.slots c.self.inside.targets.items c.args.at.index c.args.slot =
     get_or_read c.self.inside.targets.items _ _ place (rw (c.SLOTS.ensures, g.S.Shape.constants.slots) at c.index.ensures) None in
     let refers = rw (c.deref-2.ensures.value, cell) at c.referred-old.ensures in
-    let done = writes _ _ _ _ _ c.self.invariant frame.in_range frame.opened held c.args.slot slot _ refers c.args.to to (rw c.deref.ensures.value at c.shade_target-self-inside.ensures) in
-    rw (c.write_ref.ensures, c.index_of.ensures, c.name_of.ensures, c.name_of-2.ensures, c.SLOTS.ensures, g.S.Shape.constants.slots) done.plain
+    let done = writes c.self.invariant frame held c.args.slot slot _ refers c.args.to to (rw c.deref.ensures.value at c.shade_target-self-inside.ensures) in
+    rw (c.write_ref.ensures, c.index_of.ensures, c.name_of.ensures, c.name_of-2.ensures, c.SLOTS.ensures, g.S.Shape.constants.slots) done.done.plain
 
 pub returns-clause-entries : goal.returns-clause-entries
 returns-clause-entries g c =
     let frame = rw (← c.self.view_is) at c.requires.frame in
     let held = rw (← c.self.view_is) at c.requires.at in
     let slot = rw (← c.self.view_is) at c.requires.slot in
-    let low = ref_below _ _ _ _ _ c.self.invariant frame.in_range frame.opened held c.args.slot slot in
-    let place = target_place _ _ _ _ _ c.self.invariant frame.in_range frame.opened held c.args.slot low in
+    let place = target_place c.self.invariant frame held c.args.slot (ref_below c.self.invariant frame held c.args.slot slot) in
     let to = rw (← c.self.view_is) at c.requires.to in
     let cell : c.index.result.now ≡ target_at g.S.Shape.sizes.slots c.self.inside.targets.items c.args.at.index c.args.slot =
     get_or_read c.self.inside.targets.items _ _ place (rw (c.SLOTS.ensures, g.S.Shape.constants.slots) at c.index.ensures) None in
     let refers = rw (c.deref-2.ensures.value, cell) at c.referred-old.ensures in
-    let done = writes _ _ _ _ _ c.self.invariant frame.in_range frame.opened held c.args.slot slot _ refers c.args.to to (rw c.deref.ensures.value at c.shade_target-self-inside.ensures) in
-    rw (← c.self.view_is, c.write_ref.ensures, c.name_of.ensures, c.name_of-2.ensures) done.appends
+    let done = writes c.self.invariant frame held c.args.slot slot _ refers c.args.to to (rw c.deref.ensures.value at c.shade_target-self-inside.ensures) in
+    rw (← c.self.view_is, c.write_ref.ensures, c.name_of.ensures, c.name_of-2.ensures) done.done.entries
 
 pub returns-clause-given : goal.returns-clause-given
 returns-clause-given g c =
     let frame = rw (← c.self.view_is) at c.requires.frame in
     let held = rw (← c.self.view_is) at c.requires.at in
     let slot = rw (← c.self.view_is) at c.requires.slot in
-    let low = ref_below _ _ _ _ _ c.self.invariant frame.in_range frame.opened held c.args.slot slot in
-    let place = target_place _ _ _ _ _ c.self.invariant frame.in_range frame.opened held c.args.slot low in
+    let place = target_place c.self.invariant frame held c.args.slot (ref_below c.self.invariant frame held c.args.slot slot) in
     let to = rw (← c.self.view_is) at c.requires.to in
     let cell : c.index.result.now ≡ target_at g.S.Shape.sizes.slots c.self.inside.targets.items c.args.at.index c.args.slot =
     get_or_read c.self.inside.targets.items _ _ place (rw (c.SLOTS.ensures, g.S.Shape.constants.slots) at c.index.ensures) None in
     let refers = rw (c.deref-2.ensures.value, cell) at c.referred-old.ensures in
-    let done = writes _ _ _ _ _ c.self.invariant frame.in_range frame.opened held c.args.slot slot _ refers c.args.to to (rw c.deref.ensures.value at c.shade_target-self-inside.ensures) in
+    let done = writes c.self.invariant frame held c.args.slot slot _ refers c.args.to to (rw c.deref.ensures.value at c.shade_target-self-inside.ensures) in
     rw (c.write_ref.ensures, c.name_of.ensures, c.name_of-2.ensures) done.given
 
 pub returns-clause-held : goal.returns-clause-held
-returns-clause-held g c =
-    let frame = rw (← c.self.view_is) at c.requires.frame in
-    let held = rw (← c.self.view_is) at c.requires.at in
-    let slot = rw (← c.self.view_is) at c.requires.slot in
-    let low = ref_below _ _ _ _ _ c.self.invariant frame.in_range frame.opened held c.args.slot slot in
-    let place = target_place _ _ _ _ _ c.self.invariant frame.in_range frame.opened held c.args.slot low in
-    let to = rw (← c.self.view_is) at c.requires.to in
-    let cell : c.index.result.now ≡ target_at g.S.Shape.sizes.slots c.self.inside.targets.items c.args.at.index c.args.slot =
-    get_or_read c.self.inside.targets.items _ _ place (rw (c.SLOTS.ensures, g.S.Shape.constants.slots) at c.index.ensures) None in
-    let refers = rw (c.deref-2.ensures.value, cell) at c.referred-old.ensures in
-    let done = writes _ _ _ _ _ c.self.invariant frame.in_range frame.opened held c.args.slot slot _ refers c.args.to to (rw c.deref.ensures.value at c.shade_target-self-inside.ensures) in
-    rw (← c.self.view_is, c.write_ref.ensures, c.name_of.ensures, c.name_of-2.ensures) done.keeps
+returns-clause-held g c = let entries = rw (← c.self.view_is) at (returns-clause-entries g c) in rw (← c.self.view_is) (keeps entries refl _)
