@@ -20,8 +20,6 @@ mod field;
 pub mod laws;
 mod refusal;
 mod rows;
-#[cfg(test)]
-mod tests;
 
 pub use classes::ClassTable;
 pub use field::{Field, FieldKind};

@@ -20,10 +20,3 @@ mod storing;
 mod sweeping;
 
 pub use heap::PlainHeap;
-
-#[cfg(test)]
-mod cell_tests;
-#[cfg(test)]
-mod part_tests;
-#[cfg(test)]
-mod tests;

@@ -36,10 +36,3 @@ pub use class_schema::{AddErr, ClassTable, Field, FieldKind, SchemaErr};
 pub use limits::Limits;
 pub use reader::parse;
 pub use script::{Cmd, Counts, FieldNames, GcCmd, LaneCmd, Line, Lines, Script, Spot};
-
-#[cfg(test)]
-mod fault_tests;
-#[cfg(test)]
-mod field_tests;
-#[cfg(test)]
-mod tests;

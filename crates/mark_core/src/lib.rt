@@ -13,8 +13,6 @@
 #![tactic(auto)]
 
 mod allowed;
-#[cfg(test)]
-mod chance_tests;
 mod collector_steps;
 mod colours;
 mod flags;
@@ -24,12 +22,6 @@ mod machine;
 mod marker_steps;
 mod marking;
 mod places;
-#[cfg(test)]
-mod refused_tests;
-#[cfg(test)]
-mod scripts;
-#[cfg(test)]
-mod tests;
 mod types;
 mod words;
 

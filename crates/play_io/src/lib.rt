@@ -14,8 +14,6 @@ mod mem_source;
 mod pace;
 mod sink;
 mod source;
-#[cfg(test)]
-mod tests;
 
 pub use mem_sink::MemSink;
 pub use mem_source::MemSource;

@@ -12,8 +12,6 @@ mod laws;
 mod place;
 mod reference;
 mod stock;
-#[cfg(test)]
-mod tests;
 mod weak;
 
 pub use gate::{Gate, pack_gate, unpack_gate};

@@ -2,35 +2,28 @@
 //!
 //! It stands on `level_script` for what a script is, on `class_schema` for its classes, on `world_model` for what an engine does, on
 //! `heap_plain` for an engine, and on `play_io` for the outside. The player is written over any
-//! engine. `specs/Plays` says when a history plays lines, `specs/Text` has the text of a reply, and
-//! `specs/Ends` what a whole run has done.
+//! engine. `specs/Lanes` and `specs/Collections` say what each command is, `specs/Plays` when a
+//! history plays lines, `specs/Text` has the text of a reply, `specs/Outcome` the outcome of a whole
+//! script, and `specs/Ends` what a whole run has done.
 //!
 //! The layer above calls `worldrun`, and writes `fault_text` and `exit_code` of its status.
 #![tactic(auto)]
 
-#[cfg(test)]
-mod cell_tests;
 mod cells;
 mod collection;
 mod header;
 mod hooks;
 mod lane;
 mod laws;
-#[cfg(test)]
-mod outside_tests;
 mod player;
 mod reply;
 mod run;
 mod status;
 mod stream;
-#[cfg(test)]
-mod tests;
 mod text;
 mod turn;
 mod variables;
 mod words;
-#[cfg(test)]
-mod words_tests;
 
 pub use header::Header;
 pub use hooks::ClassHooks;

@@ -1,8 +1,0 @@
-use Rattle.std.proofs.Common.{◌≡◌, ◌∷◌, []}
-use Rattle.world_model.specs.Histories.{after}
-use Rattle.heap_plain.specs.Types.{Lane}
-use Rattle.heap_plain.specs.Parts.{Holds}
-use Rattle.heap_plain.proofs.cell_tests.chain.Given as goal
-
-abbrev pub invariant-loop-n : goal.invariant-loop-n
-invariant-loop-n g l = record { opened : (after l.heap.history).opened ≡ Lane 0 ∷ []; held : Holds l.heap 0 l.last }

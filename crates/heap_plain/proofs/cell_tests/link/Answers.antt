@@ -1,8 +1,0 @@
-use Rattle.std.proofs.Common.{ap, ◌∙◌, List}
-use Rattle.world_model.specs.Histories.{after}
-use Rattle.heap_plain.specs.Types.{Entry}
-use Rattle.heap_plain.proofs.Opened.{same_by_write}
-use Rattle.heap_plain.proofs.cell_tests.link.Goals as goal
-
-pub returns-clause-opened : goal.returns-clause-opened
-returns-clause-opened g c = same_by_write c.write_ref.ensures.entries ∙ ap (λ (h : List Entry). (after h).opened) c.kind_of-kind.ensures.same ∙ c.requires.opened

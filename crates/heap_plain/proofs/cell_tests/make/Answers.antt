@@ -1,6 +1,0 @@
-use Rattle.std.proofs.Common.{◌∙◌}
-use Rattle.heap_plain.proofs.Opened.{same_by_create}
-use Rattle.heap_plain.proofs.cell_tests.make.Goals as goal
-
-pub returns-clause-opened : goal.returns-clause-opened
-returns-clause-opened g c = same_by_create _ _ _ c.create.ensures.entries ∙ c.requires.opened
