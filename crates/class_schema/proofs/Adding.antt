@@ -1,6 +1,5 @@
 -- What is kept stays true as fields and classes come.
-use Rattle.std.proofs.Common.{◌≡◌, ◌≢◌, ℕ, ◌+◌, ◌-◌, ◌<◌, ◌≤◌, ◌==◌, refl, sym, ap, ◌∙◌, subst, inl, inr, arith, zero-add, Bool, true, false, ◌||◌,
-    if◌then◌else◌, ◌⊎◌, List, [], ◌∷◌, ◌++◌, length, map, set, take, drop, Option, Some, None, option_map, slice_get, IsTrue}
+use Rattle.std.proofs.Common.{◌≡◌, ◌≢◌, ℕ, ◌+◌, ◌-◌, ◌<◌, ◌≤◌, ◌==◌, refl, sym, ap, ◌∙◌, subst, inl, inr, arith, zero-add, Bool, true, false, ◌||◌, if◌then◌else◌, ◌⊎◌, List, [], ◌∷◌, ◌++◌, length, map, set, take, drop, Option, Some, None, option_map, slice_get, IsTrue}
 use Rattle.std.specs.List.{list_any, All, Any}
 use Rattle.std.proofs.lemmas.Bool.{or_left, or_right, eq-eqb, eqb-true, ne_eqb, lt-ltb, ltb-true, false_from_ne_true}
 use Rattle.std.proofs.lemmas.List.{length-map, length-set, length_push, map-append, map_push, append-nil, append_assoc, take_all, drop-append-le, get_or_default}
@@ -55,14 +54,14 @@ module _ (slots : ℕ) (row : ClassRow) (name line : ℕ) (kind : FieldKind) (co
       record {
         refs =
             λ names.
-              (λ t. h.refs names t + sym (zero-add (ref_count (declaration_of names next))) t)
-                ∙ sym (sum_by-append ref_count (map (declaration_of names) row.fields) (declaration_of names next ∷ []))
-                ∙ ap ref_slots (sym (map-append (declaration_of names) row.fields (next ∷ [])));
+            (λ t. h.refs names t + sym (zero-add (ref_count (declaration_of names next))) t)
+            ∙ sym (sum_by-append ref_count (map (declaration_of names) row.fields) (declaration_of names next ∷ []))
+            ∙ ap ref_slots (sym (map-append (declaration_of names) row.fields (next ∷ [])));
         plain =
             λ names.
-              (λ t. h.plain names t + sym (zero-add (plain_count (declaration_of names next))) t)
-                ∙ sym (sum_by-append plain_count (map (declaration_of names) row.fields) (declaration_of names next ∷ []))
-                ∙ ap plain_slots (sym (map-append (declaration_of names) row.fields (next ∷ [])));
+            (λ t. h.plain names t + sym (zero-add (plain_count (declaration_of names next))) t)
+            ∙ sym (sum_by-append plain_count (map (declaration_of names) row.fields) (declaration_of names next ∷ []))
+            ∙ ap plain_slots (sym (map-append (declaration_of names) row.fields (next ∷ [])));
         fits = both_fit (is_ref kind) row.refs row.plain count slots room;
         placed = λ names. ap (layout slots []) (map-append (declaration_of names) row.fields (next ∷ []))
             ∙ layout_push slots [] (map (declaration_of names) row.fields) (declaration_of names next)
@@ -98,7 +97,7 @@ is_parent rows id row parent at e =
 
 module _ (slots names more : ℕ) (rows : List ClassRow) (i : ℕ) (row new : ClassRow) (at : slice_get rows i ≡ Some row) (le : names ≤ more) (are : AreRows slots names rows)
     (as' : StandsAs row new) (alone : AddsUp slots new) (each : All (IsFieldRow more (length rows)) new.fields)
-        (kept : has_children (row_parents rows) (id_of i) ≡ true → new.fields ≡ row.fields) where
+    (kept : has_children (row_parents rows) (id_of i) ≡ true → new.fields ≡ row.fields) where
   pub parents_set : row_parents (set rows i new) ≡ row_parents rows
   parents_set = map_set_same (λ (r : ClassRow). r.parent) rows i row new at as'.parent
 
@@ -199,7 +198,7 @@ module _ (slots names : ℕ) (rows : List ClassRow) (are : AreRows slots names r
   weaker : (fs : List FieldRow) → All (IsFieldRow names (length rows)) fs → All (IsFieldRow names (length all)) fs
   weaker fs h = let l = length_push rows child in
       each_wider names names (length rows) (length (rows ++ child ∷ [])) (omega arith)
-        (target_wider (length rows) (length (rows ++ child ∷ [])) (omega arith)) fs h
+      (target_wider (length rows) (length (rows ++ child ∷ [])) (omega arith)) fs h
 
   within : parent.0 < length rows
   within = slice_get_within rows parent.0 above at
@@ -207,8 +206,8 @@ module _ (slots names : ℕ) (rows : List ClassRow) (are : AreRows slots names r
   is_far : (id of : ClassId) → id.0 < length rows → IsA (row_parents rows) id of → IsA (row_parents all) id of
   is_far id of lt h =
       subst (λ ps. IsA ps id of) (sym parents_push)
-        (isa_push (row_parents rows) (rows_fall slots names rows are) (Some parent) id of
-          (let l = length-map rows (λ (r : ClassRow). r.parent) in omega arith) h)
+      (isa_push (row_parents rows) (rows_fall slots names rows are) (Some parent) id of
+      (let l = length-map rows (λ (r : ClassRow). r.parent) in omega arith) h)
 
   last : slice_get all (length rows) ≡ Some child
   last = at_push rows child

@@ -41,9 +41,9 @@ module _ (t : Schema) (lawful : IsSchema t) where
       by class parent e (inl lt) = from class parent (class_at t.classes class).parent (lawful.each class lt).older (sym (get_or-map (λ (c : Class). c.parent) t.classes class.0 object None lt) ∙ e)
       by class parent e (inr past) =
           absurd
-            (let l = length-map t.classes (λ (c : Class). c.parent) in
-              let n : None ≡ Some parent = sym (get_or_past (parents t.classes) class.0 None (omega arith)) ∙ e in
-              cc)
+          (let l = length-map t.classes (λ (c : Class). c.parent) in
+          let n : None ≡ Some parent = sym (get_or_past (parents t.classes) class.0 None (omega arith)) ∙ e in
+          cc)
 
   -- more generations than an id says add nothing
   enough : (n m : ℕ) (class : ClassId) → class.0 < n → class.0 < m → fields_within t.classes n (Some class) ≡ fields_within t.classes m (Some class)
@@ -51,7 +51,7 @@ module _ (t : Schema) (lawful : IsSchema t) where
   enough (suc n) zero class a b = absurd (omega arith)
   enough (suc n) (suc m) class a b =
       ap (λ up. up ++ (class_at t.classes class).own)
-        (go (parent_of (parents t.classes) (Some class)) (λ parent e. schema_falls.falls class parent e) (λ parent. enough n m parent))
+      (go (parent_of (parents t.classes) (Some class)) (λ parent e. schema_falls.falls class parent e) (λ parent. enough n m parent))
     where
       go : (o : Option ClassId) → ((parent : ClassId) → o ≡ Some parent → parent.0 < class.0)
           → ((parent : ClassId) → parent.0 < n → parent.0 < m → fields_within t.classes n (Some parent) ≡ fields_within t.classes m (Some parent))
@@ -73,8 +73,8 @@ module _ (t : Schema) (lawful : IsSchema t) where
     where
       go : (o : Option ClassId) → parent_of (parents t.classes) (Some class) ≡ o → HasFieldsOf t.classes (class_at t.classes class) (fields t.classes class) o
           → ((parent : ClassId) → ancestor (parents t.classes) n (Some parent) ≡ Some of
-                → (more : List Declaration) × (fields t.classes parent ≡ fields t.classes of ++ more))
-              → (more : List Declaration) × (fields t.classes class ≡ fields t.classes of ++ more)
+          → (more : List Declaration) × (fields t.classes parent ≡ fields t.classes of ++ more))
+          → (more : List Declaration) × (fields t.classes class ≡ fields t.classes of ++ more)
       go None is has rest = absurd (let f : None ≡ Some of = sym (above_none (parents t.classes) n) ∙ ap (ancestor (parents t.classes) n) (sym is) ∙ e in cc)
       go (Some parent) is has rest =
           let r = rest parent (ap (ancestor (parents t.classes) n) (sym is) ∙ e) in
@@ -85,7 +85,7 @@ module _ (t : Schema) (lawful : IsSchema t) where
   slots_kept class of h name field e =
       let r = first_fields h.0 class of h.1 in
       ap (λ fs. option_map as_field (find (λ (p : Placed). is_called name p.declared) (layout t.slots [] fs))) r.1
-          ∙ go r.0 (find (λ (p : Placed). is_called name p.declared) (layout t.slots [] (fields t.classes of))) refl e
+      ∙ go r.0 (find (λ (p : Placed). is_called name p.declared) (layout t.slots [] (fields t.classes of))) refl e
     where
       go : (more : List Declaration) (o : Option Placed)
           → find (λ (p : Placed). is_called name p.declared) (layout t.slots [] (fields t.classes of)) ≡ o → option_map as_field o ≡ Some field

@@ -1,6 +1,5 @@
 -- Each call keeps what is kept, and makes of the classes what it says.
-use Rattle.std.proofs.Common.{◌≡◌, ◌≢◌, ℕ, zero, suc, ◌+◌, ◌<◌, ◌≤◌, refl, sym, ap, ◌∙◌, subst, inl, inr, arith, Bool, true, false, ◌⊎◌, List, [],
-    ◌∷◌, ◌++◌, length, map, set, drop, Some, None, option_map, slice_get, slice_index_or, String, string_bytes, IsTrue}
+use Rattle.std.proofs.Common.{◌≡◌, ◌≢◌, ℕ, zero, suc, ◌+◌, ◌<◌, ◌≤◌, refl, sym, ap, ◌∙◌, subst, inl, inr, arith, Bool, true, false, ◌⊎◌, List, [], ◌∷◌, ◌++◌, length, map, set, drop, Some, None, option_map, slice_get, slice_index_or, String, string_bytes, IsTrue}
 use Rattle.std.specs.Prelude.{Result, Ok, if◌then◌else◌}
 use Rattle.std.specs.List.{All, IsDistinct}
 use Rattle.std.specs.String.{string_eq}
@@ -76,7 +75,7 @@ sees_ready names es id row ready at =
 pub ready_done : (slots : ℕ) (keys : List (String Global)) (es : Entries) (id : ClassId) (row : ClassRow) (ready : Ready)
     → slice_get (rows_of es) id.0 ≡ Some row → has_children (parents (classes_of (texts keys) es)) id ≡ false
     → ready_set (record { slots = slots; classes = classes_of (texts keys) es }) id ready
-        ≡ Ok (record { slots = slots; classes = classes_of (texts keys) (set_value_at es id.0 (record row { ready = ready })) })
+    ≡ Ok (record { slots = slots; classes = classes_of (texts keys) (set_value_at es id.0 (record row { ready = ready })) })
 ready_done slots keys es id row ready at none =
     let old : Schema = record { slots = slots; classes = classes_of (texts keys) es } in
     let table : List Class → Result Schema SchemaErr = λ cs. Ok (record { slots = slots; classes = cs }) in
@@ -106,7 +105,7 @@ module _ (slots : ℕ) (keys more : List (String Global)) (es : Entries) (id : C
         let most = k.few in
         let rows = values_set es id.0 new in
         let wide : All (IsFieldRow (length more) (length (rows_of es))) row.fields =
-            All-weaker (IsFieldRow (length keys) (length (rows_of es))) (IsFieldRow (length more) (length (rows_of es))) wider row.fields here.each in
+        All-weaker (IsFieldRow (length keys) (length (rows_of es))) (IsFieldRow (length more) (length (rows_of es))) wider row.fields here.each in
         record {
           some_slots = k.some_slots;
           few_slots = k.few_slots;
@@ -120,8 +119,8 @@ module _ (slots : ℕ) (keys more : List (String Global)) (es : Entries) (id : C
               (record { parent = refl; jump = refl; depth = refl; inherited = refl; front = take-append-le row.inherited row.fields (field ∷ []) a.inherited })
               (adds_up_push slots row name line kind count a room fresh)
               (All-push (IsFieldRow (length more) (length (rows_of es))) row.fields field wide
-                  (record
-                    { named = named; some = some; few = few; target = subst (λ (n : ℕ). IsTrue (has_target n kind)) (sym (length_rows es)) target }))
+              (record
+              { named = named; some = some; few = few; target = subst (λ (n : ℕ). IsTrue (has_target n kind)) (sym (length_rows es)) target }))
               (λ h. absurd (let c = childless in cc)));
           children = subst KnowChildren (sym rows) (set_know (rows_of es) id.0 row new at refl refl k.children);
           used = λ n lt. subst (λ rs. is_used rs n ≡ true) (sym rows) (uses n (used n lt));
@@ -152,24 +151,24 @@ module _ (slots : ℕ) (keys more : List (String Global)) (es : Entries) (id : C
     named : (j : ℕ) (e : String Global × ClassRow) → slice_get es j ≡ Some e → All (λ f. f.name < length keys) e.1.fields
     named j e got =
         All-weaker (IsFieldRow (length keys) (length (rows_of es))) (λ f. f.name < length keys) (λ f i. i.named) e.1.fields
-          (k.rows j e.1
-            (slice_get-map (λ (p : String Global × ClassRow). p.1) es j ∙ ap (option_map (λ (p : String Global × ClassRow). p.1)) got)).each
+        (k.rows j e.1
+        (slice_get-map (λ (p : String Global × ClassRow). p.1) es j ∙ ap (option_map (λ (p : String Global × ClassRow). p.1)) got)).each
 
     pub sees_field : classes_of (texts more) (set_value_at es id.0 new)
         ≡ set (classes_of (texts keys) es) id.0
-          (with_own (class_at (classes_of (texts keys) es) id) (record { name = text; line = line; kind = kind; count = count }))
+        (with_own (class_at (classes_of (texts keys) es) id) (record { name = text; line = line; kind = kind; count = count }))
     sees_field =
         let e = class_seen (texts keys) es id row at in
         let a = (k.rows id.0 row at).adds_up in
         let own : map (declaration_of (texts more)) (drop row.inherited (row.fields ++ field ∷ []))
-            ≡ map (declaration_of (texts keys)) (drop row.inherited row.fields) ++ record { name = text; line = line; kind = kind; count = count }
-              ∷ []
+        ≡ map (declaration_of (texts keys)) (drop row.inherited row.fields) ++ record { name = text; line = line; kind = kind; count = count }
+        ∷ []
         = ap (map (declaration_of (texts more))) (drop-append-le row.inherited row.fields (field ∷ []) a.inherited)
         ∙ map-append (declaration_of (texts more)) (drop row.inherited row.fields) (field ∷ [])
         ∙ (λ t.
-            same_declarations (drop row.inherited row.fields)
-                (All-drop (λ f. f.name < length keys) row.inherited row.fields (named id.0 (e.0, row) e.1)) t
-              ++ record { name = here t; line = line; kind = kind; count = count } ∷ []) in
+        same_declarations (drop row.inherited row.fields)
+        (All-drop (λ f. f.name < length keys) row.inherited row.fields (named id.0 (e.0, row) e.1)) t
+        ++ record { name = here t; line = line; kind = kind; count = count } ∷ []) in
         let own_of : List Declaration → Class = λ fs. record { name = string_bytes e.0; line = row.line; parent = row.parent; own = fs; ready = row.ready } in
         map_entry_set (class_of (texts more)) es id.0 e.0 row new e.1
         ∙ (λ t. set (same_classes es named t) id.0 (own_of (own t)))
@@ -217,9 +216,9 @@ module _ (slots : ℕ) (keys : List (String Global)) (es : Entries) (parent : Cl
         children = subst KnowChildren (sym rows) (push_know slots (length keys) (rows_of es) k.rows parent above at line jump up k.children);
         used =
             λ n lt.
-              subst (λ rs. is_used rs n ≡ true) (sym rows)
-                (used_set (rows_of es ++ born ∷ []) parent.0 above marked there refl a.inherited [] (sym (append-nil above.fields)) n
-                  (used_push (rows_of es) born n (k.used n lt)));
+            subst (λ rs. is_used rs n ≡ true) (sym rows)
+            (used_set (rows_of es ++ born ∷ []) parent.0 above marked there refl a.inherited [] (sym (append-nil above.fields)) n
+            (used_push (rows_of es) born n (k.used n lt)));
       }
 
   pub sees_class : (names : List (List ℕ)) (name : List ℕ) → string_bytes key ≡ name

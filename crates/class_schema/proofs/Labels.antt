@@ -1,6 +1,5 @@
 -- The names of fields, by number.
-use Rattle.std.proofs.Common.{◌≡◌, ◌≢◌, ℕ, ◌<◌, ◌==◌, refl, sym, ap, ◌∙◌, subst, inl, inr, arith, Bool, true, false, ◌||◌, cond, ◌⊎◌, List, [], ◌∷◌,
-    length, map, drop, Option, Some, None, option_map, slice_get, slice_index_or, String, string_bytes}
+use Rattle.std.proofs.Common.{◌≡◌, ◌≢◌, ℕ, ◌<◌, ◌==◌, refl, sym, ap, ◌∙◌, subst, inl, inr, arith, Bool, true, false, ◌||◌, cond, ◌⊎◌, List, [], ◌∷◌, length, map, drop, Option, Some, None, option_map, slice_get, slice_index_or, String, string_bytes}
 use Rattle.std.specs.Prelude.{nat_lt, position}
 use Rattle.std.specs.List.{list_any, find, All, Any, IsDistinct, position_or_len}
 use Rattle.std.specs.Str.{bytes_eq}
@@ -156,14 +155,14 @@ module _ (keys : List (String Global)) (name : List ℕ) where
 
     pub line_found : IsDistinct string_eq keys → (k : ℕ) → position is_text keys ≡ Some k
         → option_map (λ (f : Declaration). f.line) (find (is_called name) (map (declaration_of (texts keys)) fs))
-          ≡ option_map (λ (f : FieldRow). f.line) (find (λ f. f.name == k) fs)
+        ≡ option_map (λ (f : FieldRow). f.line) (find (λ f. f.name == k) fs)
     line_found unique k e =
         ap (option_map (λ (f : Declaration). f.line)) (find_map (declaration_of (texts keys)) (is_called name) (by_number k) fs (tests unique k e))
         ∙ option_map_map (λ (f : Declaration). f.line) (declaration_of (texts keys)) (find (by_number k) fs)
 
     pub field_found : IsDistinct string_eq keys → (k : ℕ) → position is_text keys ≡ Some k
         → option_map as_field (find (λ p. is_called name p.declared) (map (placed_of (texts keys)) fs))
-          ≡ option_map (λ (f : FieldRow). f.field) (find (λ f. f.name == k) fs)
+        ≡ option_map (λ (f : FieldRow). f.field) (find (λ f. f.name == k) fs)
     field_found unique k e =
         ap (option_map as_field) (find_map (placed_of (texts keys)) (λ (p : Placed). is_called name p.declared) (by_number k) fs (tests unique k e))
         ∙ option_map_map as_field (placed_of (texts keys)) (find (by_number k) fs)
@@ -171,14 +170,14 @@ module _ (keys : List (String Global)) (name : List ℕ) where
     pub line_missing : position is_text keys ≡ None → option_map (λ (f : Declaration). f.line) (find (is_called name) (map (declaration_of (texts keys)) fs)) ≡ None
     line_missing e =
         ap (option_map (λ (f : Declaration). f.line))
-            (find_map (declaration_of (texts keys)) (is_called name) (λ f. false) fs (fails e)
-              ∙ ap (option_map (declaration_of (texts keys))) (find_nothing (λ f. false) fs (λ k d lt. refl)))
+        (find_map (declaration_of (texts keys)) (is_called name) (λ f. false) fs (fails e)
+        ∙ ap (option_map (declaration_of (texts keys))) (find_nothing (λ f. false) fs (λ k d lt. refl)))
 
     pub field_missing : position is_text keys ≡ None → option_map as_field (find (λ p. is_called name p.declared) (map (placed_of (texts keys)) fs)) ≡ None
     field_missing e =
         ap (option_map as_field)
-            (find_map (placed_of (texts keys)) (λ (p : Placed). is_called name p.declared) (λ f. false) fs (fails e)
-              ∙ ap (option_map (placed_of (texts keys))) (find_nothing (λ f. false) fs (λ k d lt. refl)))
+        (find_map (placed_of (texts keys)) (λ (p : Placed). is_called name p.declared) (λ f. false) fs (fails e)
+        ∙ ap (option_map (placed_of (texts keys))) (find_nothing (λ f. false) fs (λ k d lt. refl)))
 
     -- no field of a class has the number of a name that none of them has
     pub fresh_number : IsDistinct string_eq keys → (k : ℕ) → position is_text keys ≡ Some k
@@ -213,9 +212,9 @@ module _ (keys : List (String Global)) (name : List ℕ) where
         go : Any (λ key. is_text keys name key ≡ true) keys → list_any adds (rows_of es) ≡ true
         go (k, key, lt, e, t) =
             any_weaker (λ row. list_any (λ f. f.name == k) (drop row.inherited row.fields)) adds
-              (λ row any.
-                any_weaker (λ f. f.name == k) (λ f. bytes_eq name (slice_index_or (texts keys) f.name [])) named (drop row.inherited row.fields) any)
-              (rows_of es) (used k lt)
+            (λ row any.
+            any_weaker (λ f. f.name == k) (λ f. bytes_eq name (slice_index_or (texts keys) f.name [])) named (drop row.inherited row.fields) any)
+            (rows_of es) (used k lt)
           where
             named : (f : FieldRow) → (f.name == k) ≡ true → bytes_eq name (slice_index_or (texts keys) f.name []) ≡ true
             named f s = ap (λ n. bytes_eq name (slice_index_or (texts keys) n [])) (eqb-true f.name k s) ∙ test_at keys name k key lt ∙ ap (is_text keys name) e ∙ t

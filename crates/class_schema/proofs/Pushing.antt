@@ -1,6 +1,5 @@
 -- A field or a class that is admitted comes.
-use Rattle.std.proofs.Common.{◌≡◌, ℕ, ◌+◌, ◌<◌, ◌≤◌, refl, sym, ap, ◌∙◌, subst, inl, inr, arith, Bool, true, false, ◌⊎◌, List, [], ◌∷◌, ◌++◌, length,
-    Option, Some, None, slice_get, slice_index_or, String, string_bytes, IsTrue}
+use Rattle.std.proofs.Common.{◌≡◌, ℕ, ◌+◌, ◌<◌, ◌≤◌, refl, sym, ap, ◌∙◌, subst, inl, inr, arith, Bool, true, false, ◌⊎◌, List, [], ◌∷◌, ◌++◌, length, Option, Some, None, slice_get, slice_index_or, String, string_bytes, IsTrue}
 use Rattle.std.specs.Prelude.{nat_lt, position, Result, Ok, Err, OnErr, if◌then◌else◌}
 use Rattle.std.specs.List.{IsDistinct, list_any}
 use Rattle.std.specs.String.{string_eq, string_eq_equiv}
@@ -56,7 +55,7 @@ admits t class name count e = go (has_children (parents t.classes) class) refl e
 
     go : (b : Bool) → has_children (parents t.classes) class ≡ b
         → (if b then Some refusal.HasChildren else refused_unless (field_line t.classes class name)
-            (no_room t.slots (used_slots (fields t.classes class)) count)) ≡ None → IsAdmitted t class name count
+        (no_room t.slots (used_slots (fields t.classes class)) count)) ≡ None → IsAdmitted t class name count
     go true is s = absurd cc
     go false is s = free is (field_line t.classes class name) refl s
 
@@ -83,15 +82,15 @@ module _ (slots : ℕ) (keys : List (String Global)) (es : Entries) (k : Keeps s
     pub keeps_known : (n : ℕ) → position (is_text keys text) keys ≡ Some n → Keeps slots keys (set_value_at es id.0 (with_row row slots n line kind count))
     keeps_known n e =
         keeps_field slots keys keys es id row at n line kind count k (omega arith) (name_at keys text n e).0 some few (target_is target) has_room
-          (fresh_seen slots keys es k id row at text n e ok.free) childless k.unique_names (λ m lt. inl lt)
+        (fresh_seen slots keys es k id row at text n e ok.free) childless k.unique_names (λ m lt. inl lt)
 
     -- a field whose name is new
     pub keeps_new : (key : String Global) → list_any (string_eq key) keys ≡ false → Keeps slots (keys ++ key ∷ []) (set_value_at es id.0 (with_row row slots (length keys) line kind count))
     keeps_new key new =
         let len = length_push keys key in
         keeps_field slots keys (keys ++ key ∷ []) es id row at (length keys) line kind count k (omega arith) (omega arith) some few (target_is target)
-            has_room (fresh_new slots keys es k id row at) childless (IsDistinct-push string_eq_equiv keys key k.unique_names new)
-            (λ m lt. last m (cases_lt m (length keys)) lt)
+        has_room (fresh_new slots keys es k id row at) childless (IsDistinct-push string_eq_equiv keys key k.unique_names new)
+        (λ m lt. last m (cases_lt m (length keys)) lt)
       where
         last : (m : ℕ) → (m < length keys) ⊎ (length keys ≤ m) → m < length (keys ++ key ∷ []) → (m < length keys) ⊎ (m ≡ length keys)
         last m (inl less) lt = inl less
@@ -99,17 +98,18 @@ module _ (slots : ℕ) (keys : List (String Global)) (es : Entries) (k : Keeps s
 
   pub sees_known : (n : ℕ) → position (is_text keys text) keys ≡ Some n
       → ◌≡◌ {A = Schema} (record { slots = slots; classes = classes_of (texts keys) (set_value_at es id.0 (with_row row slots n line kind count)) })
-        (with_field table id declared)
+      (with_field table id declared)
   sees_known n e =
       let put : List Class → Schema = λ cs. record { slots = slots; classes = cs } in
       ap put (sees_field slots keys keys es id row at n line kind count k text (λ j lt. refl) (name_at keys text n e).1)
 
   pub sees_new : (key : String Global) → string_bytes key ≡ text
       → ◌≡◌ {A = Schema}
-        (record
-          { slots = slots;
-            classes = classes_of (texts (keys ++ key ∷ [])) (set_value_at es id.0 (with_row row slots (length keys) line kind count)) })
-        (with_field table id declared)
+      (record {
+        slots = slots;
+        classes = classes_of (texts (keys ++ key ∷ [])) (set_value_at es id.0 (with_row row slots (length keys) line kind count));
+      })
+      (with_field table id declared)
   sees_new key is_name =
       let put : List Class → Schema = λ cs. record { slots = slots; classes = cs } in
       let more : texts (keys ++ key ∷ []) ≡ texts keys ++ string_bytes key ∷ [] = map_push string_bytes keys key in
@@ -153,11 +153,11 @@ module _ (slots : ℕ) (keys : List (String Global)) (es all : Entries) (k : Kee
   keeps_child up room unique =
       subst (Keeps slots keys) (sym written)
       (keeps_class slots keys es parent above at key line jump k (subst (λ ps. IsA ps parent jump) (parents_seen (texts keys) es) up)
-          (let len = length-map es (class_of (texts keys)) in omega arith) (subst (λ es. IsDistinct string_eq (keys_of es)) pushed unique))
+      (let len = length-map es (class_of (texts keys)) in omega arith) (subst (λ es. IsDistinct string_eq (keys_of es)) pushed unique))
 
   pub sees_child : (name : List ℕ) → string_bytes key ≡ name
       → ◌≡◌ {A = Schema} (record { slots = slots; classes = classes_of (texts keys) (set_value_at all parent.0 (record im { has_child = true })) })
-        (with_class (record { slots = slots; classes = classes_of (texts keys) es }) line name parent)
+      (with_class (record { slots = slots; classes = classes_of (texts keys) es }) line name parent)
   sees_child name is_name =
       let put : List Class → Schema = λ cs. record { slots = slots; classes = cs } in
       ap put (ap (classes_of (texts keys)) written ∙ sees_class slots keys es parent above at key line jump (texts keys) name is_name)

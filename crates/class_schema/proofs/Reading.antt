@@ -1,6 +1,5 @@
 -- What the calls read is what contracts say.
-use Rattle.std.proofs.Common.{◌≡◌, ◌≢◌, ℕ, ◌+◌, ◌<◌, ◌≤◌, ◌==◌, refl, sym, ap, ◌∙◌, subst, inl, inr, arith, Bool, true, false, not, cond, ◌⊎◌, List,
-    [], ◌∷◌, length, map, Option, Some, None, option_map, slice_get, slice_index_or, String, string_bytes, codes, IsTrue}
+use Rattle.std.proofs.Common.{◌≡◌, ◌≢◌, ℕ, ◌+◌, ◌<◌, ◌≤◌, ◌==◌, refl, sym, ap, ◌∙◌, subst, inl, inr, arith, Bool, true, false, not, cond, ◌⊎◌, List, [], ◌∷◌, length, map, Option, Some, None, option_map, slice_get, slice_index_or, String, string_bytes, codes, IsTrue}
 use Rattle.std.specs.Prelude.{nat_lt, nat_le, position, Ok, Err, if◌then◌else◌}
 use Rattle.std.specs.Bool.{one_answer}
 use Rattle.std.specs.List.{All, AllPairs, find, list_any, position_or_len, prefix_len}
@@ -130,7 +129,7 @@ module _ (slots : ℕ) (keys : List (String Global)) (es : Entries) (k : Keeps s
       unfolding field_line
       line_at n e =
           ap (λ fs. option_map (λ (f : Declaration). f.line) (find (is_called name) fs)) its_fields
-            ∙ line_found keys name (length (rows_of es)) row.fields (k.rows id.0 row at).each k.unique_names n e
+          ∙ line_found keys name (length (rows_of es)) row.fields (k.rows id.0 row at).each k.unique_names n e
 
       pub line_none : position (is_text keys name) keys ≡ None → field_line (classes_of (texts keys) es) id name ≡ None
       unfolding field_line
@@ -143,19 +142,19 @@ module _ (slots : ℕ) (keys : List (String Global)) (es : Entries) (k : Keeps s
       unfolding find_field
       field_at n e =
           ap (λ ps. option_map as_field (find (λ (p : Placed). is_called name p.declared) ps)) its_places
-            ∙ field_found keys name (length (rows_of es)) row.fields (k.rows id.0 row at).each k.unique_names n e
+          ∙ field_found keys name (length (rows_of es)) row.fields (k.rows id.0 row at).each k.unique_names n e
 
       pub field_none : position (is_text keys name) keys ≡ None → find_field table id name ≡ None
       unfolding find_field
       field_none e =
           ap (λ ps. option_map as_field (find (λ (p : Placed). is_called name p.declared) ps)) its_places
-            ∙ field_missing keys name (length (rows_of es)) row.fields (k.rows id.0 row at).each e
+          ∙ field_missing keys name (length (rows_of es)) row.fields (k.rows id.0 row at).each e
 
       pub fresh_seen : (n : ℕ) → position (is_text keys name) keys ≡ Some n → field_line (classes_of (texts keys) es) id name ≡ None → All (λ f. f.name ≢ n) row.fields
       unfolding field_line
       fresh_seen n e none =
           fresh_number keys name (length (rows_of es)) row.fields (k.rows id.0 row at).each k.unique_names n e
-            (sym (ap (λ fs. option_map (λ (f : Declaration). f.line) (find (is_called name) fs)) its_fields) ∙ none)
+          (sym (ap (λ fs. option_map (λ (f : Declaration). f.line) (find (is_called name) fs)) its_fields) ∙ none)
 
     pub fresh_new : All (λ f. f.name ≢ length keys) row.fields
     fresh_new = All-weaker (IsFieldRow (length keys) (length (rows_of es))) (λ f. f.name ≢ length keys) (λ f i e. let n = i.named in absurd (omega arith)) row.fields (k.rows id.0 row at).each
@@ -173,20 +172,20 @@ module _ (slots : ℕ) (keys : List (String Global)) (es : Entries) (k : Keeps s
         let b = something row.fields j (omega arith) in
         let each = (k.rows id.0 row at).each in
         let ia : IsFieldRow (length keys) (length (rows_of es)) a.0 =
-            subst (IsFieldRow (length keys) (length (rows_of es))) (get_or_from_slice_get row.fields i a.0 a.0 a.1) (each i a.0 (omega arith)) in
+        subst (IsFieldRow (length keys) (length (rows_of es))) (get_or_from_slice_get row.fields i a.0 a.0 a.1) (each i a.0 (omega arith)) in
         let ib : IsFieldRow (length keys) (length (rows_of es)) b.0 =
-            subst (IsFieldRow (length keys) (length (rows_of es))) (get_or_from_slice_get row.fields j b.0 b.0 b.1) (each j b.0 (omega arith)) in
+        subst (IsFieldRow (length keys) (length (rows_of es))) (get_or_from_slice_get row.fields j b.0 b.0 b.1) (each j b.0 (omega arith)) in
         let da : slice_index_or (map (declaration_of (texts keys)) row.fields) i d ≡ declaration_of (texts keys) a.0 =
-            get_or_from_slice_get (map (declaration_of (texts keys)) row.fields) i (declaration_of (texts keys) a.0) d
-              (slice_get-map (declaration_of (texts keys)) row.fields i ∙ ap (option_map (declaration_of (texts keys))) a.1) in
+        get_or_from_slice_get (map (declaration_of (texts keys)) row.fields) i (declaration_of (texts keys) a.0) d
+        (slice_get-map (declaration_of (texts keys)) row.fields i ∙ ap (option_map (declaration_of (texts keys))) a.1) in
         let db : slice_index_or (map (declaration_of (texts keys)) row.fields) j d ≡ declaration_of (texts keys) b.0 =
-            get_or_from_slice_get (map (declaration_of (texts keys)) row.fields) j (declaration_of (texts keys) b.0) d
-              (slice_get-map (declaration_of (texts keys)) row.fields j ∙ ap (option_map (declaration_of (texts keys))) b.1) in
+        get_or_from_slice_get (map (declaration_of (texts keys)) row.fields) j (declaration_of (texts keys) b.0) d
+        (slice_get-map (declaration_of (texts keys)) row.fields j ∙ ap (option_map (declaration_of (texts keys))) b.1) in
         let texts_same : slice_index_or (texts keys) a.0.name [] ≡ slice_index_or (texts keys) b.0.name [] = sym (ap (λ (f : Declaration). f.name) da) ∙ same ∙ ap (λ (f : Declaration). f.name) db in
         let numbers : a.0.name ≡ b.0.name = one_number keys k.unique_names a.0.name b.0.name ia.named ib.named texts_same in
         (k.rows id.0 row at).adds_up.different i j a.0 less (omega arith)
-            (ap (λ (f : FieldRow). f.name) (get_or_from_slice_get row.fields i a.0 a.0 a.1) ∙ numbers
-              ∙ sym (ap (λ (f : FieldRow). f.name) (get_or_from_slice_get row.fields j b.0 a.0 b.1)))
+        (ap (λ (f : FieldRow). f.name) (get_or_from_slice_get row.fields i a.0 a.0 a.1) ∙ numbers
+        ∙ sym (ap (λ (f : FieldRow). f.name) (get_or_from_slice_get row.fields j b.0 a.0 b.1)))
 
     older : (o : Option ClassId) → Inherits (rows_of es) id.0 row o → HasParent id o
     older None h = h.0
@@ -202,9 +201,9 @@ module _ (slots : ℕ) (keys : List (String Global)) (es : Entries) (k : Keeps s
           older = subst (HasParent id) (sym (ap (λ (c : Class). c.parent) seen.2)) (older row.parent here.inherits);
           whole =
               subst (All (IsField (length (classes_of (texts keys) es)))) (sym its_fields)
-                (All-map (IsField (length (classes_of (texts keys) es))) (declaration_of (texts keys)) row.fields
-                  (All-weaker (IsFieldRow (length keys) (length (rows_of es)))
-                    (λ f. IsField (length (classes_of (texts keys) es)) (declaration_of (texts keys) f)) is_field row.fields here.each));
+              (All-map (IsField (length (classes_of (texts keys) es))) (declaration_of (texts keys)) row.fields
+              (All-weaker (IsFieldRow (length keys) (length (rows_of es)))
+              (λ f. IsField (length (classes_of (texts keys) es)) (declaration_of (texts keys) f)) is_field row.fields here.each));
           different = subst (AllPairs (λ f g. f.name ≢ g.name)) (sym its_fields) pairs;
           fits = omega arith;
           ready = subst (λ (r : Ready). IsTrue (is_readiness r)) ready_seen here.adds_up.ready;
@@ -217,11 +216,11 @@ module _ (slots : ℕ) (keys : List (String Global)) (es : Entries) (k : Keeps s
       let a = something es i (omega arith) in
       let b = something es j (omega arith) in
       let da : slice_index_or (classes_of (texts keys) es) i d ≡ class_of (texts keys) a.0 =
-          get_or_from_slice_get (classes_of (texts keys) es) i (class_of (texts keys) a.0) d
-            (slice_get-map (class_of (texts keys)) es i ∙ ap (option_map (class_of (texts keys))) a.1) in
+      get_or_from_slice_get (classes_of (texts keys) es) i (class_of (texts keys) a.0) d
+      (slice_get-map (class_of (texts keys)) es i ∙ ap (option_map (class_of (texts keys))) a.1) in
       let db : slice_index_or (classes_of (texts keys) es) j d ≡ class_of (texts keys) b.0 =
-          get_or_from_slice_get (classes_of (texts keys) es) j (class_of (texts keys) b.0) d
-            (slice_get-map (class_of (texts keys)) es j ∙ ap (option_map (class_of (texts keys))) b.1) in
+      get_or_from_slice_get (classes_of (texts keys) es) j (class_of (texts keys) b.0) d
+      (slice_get-map (class_of (texts keys)) es j ∙ ap (option_map (class_of (texts keys))) b.1) in
       let key_of : String Global × ClassRow → String Global = λ e. e.0 in
       let ka : slice_get (keys_of es) i ≡ Some a.0.0 = slice_get-map key_of es i ∙ ap (option_map key_of) a.1 in
       let kb : slice_get (keys_of es) j ≡ Some b.0.0 = slice_get-map key_of es j ∙ ap (option_map key_of) b.1 in
@@ -310,8 +309,8 @@ module _ (slots : ℕ) (keys : List (String Global)) (es : Entries) (k : Keeps s
       parent_no of below h = go (isa_down (parents (classes_of (texts keys) es)) id of h)
         where
           go : (id ≡ of)
-                ⊎ ((p : ClassId) × (parent_of (parents (classes_of (texts keys) es)) (Some id) ≡ Some p)
-                  × IsA (parents (classes_of (texts keys) es)) p of) → IsA (parents (classes_of (texts keys) es)) parent of
+              ⊎ ((p : ClassId) × (parent_of (parents (classes_of (texts keys) es)) (Some id) ≡ Some p)
+              × IsA (parents (classes_of (texts keys) es)) p of) → IsA (parents (classes_of (texts keys) es)) parent of
           go (inl same) = let s : id.0 ≡ of.0 = ap (λ (c : ClassId). c.0) same in absurd (omega arith)
           go (inr (p, f, r)) = subst (λ (c : ClassId). IsA (parents (classes_of (texts keys) es)) c of) (same_Some p parent (sym f ∙ parent_is)) r
 

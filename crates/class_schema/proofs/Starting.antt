@@ -27,8 +27,15 @@ is_row : (slots : ℕ) → IsRow slots 0 (object_row ∷ []) 0 object_row
 is_row slots =
     record {
       adds_up =
-          record { refs = λ names. refl; plain = λ names. refl; fits = omega arith; placed = λ names. refl;
-            different = λ i j d less lt. absurd (omega arith); inherited = omega arith; ready = refl };
+          record {
+            refs = λ names. refl;
+            plain = λ names. refl;
+            fits = omega arith;
+            placed = λ names. refl;
+            different = λ i j d less lt. absurd (omega arith);
+            inherited = omega arith;
+            ready = refl;
+          };
       each = λ i d lt. absurd (omega arith);
       inherits = (refl, refl);
       jump = (0, refl);

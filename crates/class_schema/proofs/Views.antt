@@ -53,9 +53,9 @@ module _ (slots count : ℕ) (rows : List ClassRow) (are : AreRows slots count r
       by class parent e (inl lt) = let r = something rows class.0 lt in from class parent r.0 r.0.parent (are class.0 r.0 r.1).inherits (sym (parent_seen rows class r.0 r.1) ∙ e)
       by class parent e (inr past) =
           absurd
-            (let l = length-map rows (λ (r : ClassRow). r.parent) in
-              let n : None ≡ Some parent = sym (get_or_past (row_parents rows) class.0 None (omega arith)) ∙ e in
-              cc)
+          (let l = length-map rows (λ (r : ClassRow). r.parent) in
+          let n : None ≡ Some parent = sym (get_or_past (row_parents rows) class.0 None (omega arith)) ∙ e in
+          cc)
 
 -- nothing has no fields
 pub none_within : (classes : List Class) (n : ℕ) → fields_within classes n None ≡ []
@@ -68,17 +68,17 @@ module _ (slots count : ℕ) (names : List (List ℕ)) (es : Entries) (are : Are
   within_seen zero id row at lt = absurd (omega arith)
   within_seen (suc n) id row at lt =
       go (λ p above. within_seen n p above) row.parent (are id row at).inherits
-        (ap (λ ps. parent_of ps (Some (id_of id))) (parents_seen names es) ∙ parent_seen (rows_of es) (id_of id) row at)
+      (ap (λ ps. parent_of ps (Some (id_of id))) (parents_seen names es) ∙ parent_seen (rows_of es) (id_of id) row at)
     where
       own : own_fields (classes_of names es) (Some (id_of id)) ≡ map (declaration_of names) (drop row.inherited row.fields)
       own = ap (λ (c : Class). c.own) (class_seen names es (id_of id) row at).2
 
       go : ((p : ℕ) (above : ClassRow) → slice_get (rows_of es) p ≡ Some above → p < n → fields_within (classes_of names es) n (Some (id_of p)) ≡ map (declaration_of names) above.fields)
           → (o : Option ClassId) → Inherits (rows_of es) id row o → parent_of (parents (classes_of names es)) (Some (id_of id)) ≡ o
-              → fields_within (classes_of names es) (suc n) (Some (id_of id)) ≡ map (declaration_of names) row.fields
+          → fields_within (classes_of names es) (suc n) (Some (id_of id)) ≡ map (declaration_of names) row.fields
       go rest None inh e =
           let none : fields_within (classes_of names es) n (parent_of (parents (classes_of names es)) (Some (id_of id))) ≡ [] =
-              ap (fields_within (classes_of names es) n) e ∙ none_within (classes_of names es) n in
+          ap (fields_within (classes_of names es) n) e ∙ none_within (classes_of names es) n in
           (λ t. none t ++ own t) ∙ ap (λ k. map (declaration_of names) (drop k row.fields)) inh.1
       go rest (Some p) inh e =
           let below = inh.0 in
@@ -87,7 +87,7 @@ module _ (slots count : ℕ) (names : List (List ℕ)) (es : Entries) (are : Are
           let up : fields_within (classes_of names es) n (parent_of (parents (classes_of names es)) (Some (id_of id))) ≡ map (declaration_of names) (take row.inherited row.fields)
           = ap (fields_within (classes_of names es) n) e ∙ rest p.0 above.0 above.1 (omega arith) ∙ ap (map (declaration_of names)) (sym (inh.1 above.0 above.1)) in
           (λ t. up t ++ own t) ∙ sym (map-append (declaration_of names) (take row.inherited row.fields) (drop row.inherited row.fields))
-              ∙ ap (map (declaration_of names)) (take-append-drop row.inherited row.fields)
+          ∙ ap (map (declaration_of names)) (take-append-drop row.inherited row.fields)
 
   -- the fields of a class
   pub fields_seen : (id : ClassId) (row : ClassRow) → slice_get (rows_of es) id.0 ≡ Some row → fields (classes_of names es) id ≡ map (declaration_of names) row.fields

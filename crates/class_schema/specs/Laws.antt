@@ -41,16 +41,16 @@ HasFieldsOf classes class all (Some parent) = all ≡ fields classes parent ++ c
 abbrev pub FieldsInherited : Type 0
 FieldsInherited =
     (t : Schema) → IsSchema t → (class : ClassId) → class.0 < length t.classes
-      → HasFieldsOf t.classes (class_at t.classes class) (fields t.classes class) (class_at t.classes class).parent
+    → HasFieldsOf t.classes (class_at t.classes class) (fields t.classes class) (class_at t.classes class).parent
 
 -- a field that a class has, each class below it has, in the same slots
 abbrev pub SlotsInherited : Type 0
 SlotsInherited =
     (t : Schema) → IsSchema t → (class of : ClassId) → class.0 < length t.classes → IsA (parents t.classes) class of → (name : List ℕ) (field : Field)
-      → find_field t of name ≡ Some field → find_field t class name ≡ Some field
+    → find_field t of name ≡ Some field → find_field t class name ≡ Some field
 
 -- the test of ancestry answers what ancestry is
 abbrev pub AncestryTested : Type 0
 AncestryTested =
     (t : Schema) → IsSchema t → (class of : ClassId)
-      → (is_a t.classes class of ≡ true → IsA (parents t.classes) class of) × (IsA (parents t.classes) class of → is_a t.classes class of ≡ true)
+    → (is_a t.classes class of ≡ true → IsA (parents t.classes) class of) × (IsA (parents t.classes) class of → is_a t.classes class of ≡ true)

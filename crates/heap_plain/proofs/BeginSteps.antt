@@ -10,19 +10,18 @@ use Rattle.std.proofs.lemmas.List.{length-set, get_or-set_other, get_or-take, le
 use Rattle.world_model.specs.Sizes.{Sizes, item_count}
 use Rattle.world_model.specs.NameLists.{has}
 use Rattle.world_model.specs.World.{World, unit_of, in_world, Removal}
-use Rattle.world_model.specs.State.{State, AtSomeMoment, Frame}
+use Rattle.world_model.specs.State.{State, AtSomeMoment}
 use Rattle.world_model.specs.Reach.{graph, IsUnit, IsRootUnit}
 use Rattle.world_model.specs.Next.{next, run}
 use Rattle.world_model.specs.Histories.{LegalFrom, MayBy, after, state_of}
-use Rattle.world_model.specs.Calls.{by, Appends, CallOf}
+use Rattle.world_model.specs.Calls.{by}
 use Rattle.world_model.proofs.ListFacts.{Among, contains_among, and_true, among_test, among_right}
 use Rattle.world_model.proofs.Units.{AreApart, units_apart}
 use Rattle.world_model.proofs.Barrier.{member_lives, own_unit}
 use Rattle.world_model.proofs.Removals.{named_lives_holds}
-use Rattle.heap_plain.specs.Types.{Name, Ref, Kind, Phase, Idle, Marking, Gathering, Begin, Collector, Entry}
+use Rattle.heap_plain.specs.Types.{Name, Kind, Phase, Idle, Marking, Gathering, Begin, Collector, Entry}
 use Rattle.heap_plain.specs.Types.act
 use Rattle.heap_plain.specs.Types.begin
-use Rattle.heap_plain.specs.declared.life.Life.{Life}
 use Rattle.heap_plain.specs.Parts.{Parts, Objects, name_at, first_at}
 use Rattle.heap_plain.specs.Filling.{Filled}
 use Rattle.heap_plain.specs.Notes.{MayStart, starts, names_at, all_set, CanKeep, Keeps}
@@ -51,7 +50,9 @@ left_idle Gathering removals found left e is = absurd cc
 pub refuses_begin : {z : Sizes} {p : Parts} {h : List Entry} (reply : Begin) → IsPlain z p h → MayStart p.phase p.left (count_by (λ is_open. is_open) p.frames) reply → starts reply ≡ false
     → Done z p h (h ++ record { pass = Collector; act = act.BeginGc reply } ∷ []) Collector (act.BeginGc reply)
 refuses_begin begin.Started was m other = absurd cc
-refuses_begin (begin.Running at) was m other = does Collector (act.BeginGc (begin.Running at)) (act.BeginGc (begin.Running at) ∷ []) was (refl, tt) (record { finishes = was.rest.between.agreed; may = (m.0 ∙ was.shows.phase, λ e. m.1 (sym m.0 ∙ e)) }, tt) was.shows
+refuses_begin (begin.Running at) was m other =
+    does Collector (act.BeginGc (begin.Running at)) (act.BeginGc (begin.Running at) ∷ []) was (refl, tt)
+    (record { finishes = was.rest.between.agreed; may = (m.0 ∙ was.shows.phase, λ e. m.1 (sym m.0 ∙ e)) }, tt) was.shows
 refuses_begin (begin.Purging n) was m other =
     let s = was.shows in
     does Collector (act.BeginGc (begin.Purging n)) (act.BeginGc (begin.Purging n) ∷ []) was (refl, tt)
@@ -105,11 +106,13 @@ pub record KeepRun (z : Sizes) (o : Objects) (marked : List Bool) (listed grey :
   pub legal : LegalFrom z s (by Collector (map act.Kept of))
   pub world : (run s (by Collector (map act.Kept of))).world ≡ s.world
   pub asked : (run s (by Collector (map act.Kept of))).collector.asked ≡ s.collector.asked
-  pub marks : MarksShow o s.world.units marked listed grey (run s (by Collector (map act.Kept of))).marks.kept (run s (by Collector (map act.Kept of))).marks.fresh (run s (by Collector (map act.Kept of))).marks.scanned
+  pub marks : MarksShow o s.world.units marked listed grey (run s (by Collector (map act.Kept of))).marks.kept
+      (run s (by Collector (map act.Kept of))).marks.fresh (run s (by Collector (map act.Kept of))).marks.scanned
   pub roots : AllByRecursion (λ n. IsRootUnit (graph s.world) (unit_of s.world n)) of
 
 -- the object behind a root bit
-root_at : {z : Sizes} {o : Objects} {kinds : ℕ → List Kind} {units : List (List Name)} {roots : List Bool} {rooted : Name → Bool} {strong : ℕ → ℕ → Option Name} → NamesShow z o.names kinds → UnitsShow z o units → RootsShow z o.names roots rooted strong
+root_at : {z : Sizes} {o : Objects} {kinds : ℕ → List Kind} {units : List (List Name)} {roots : List Bool} {rooted : Name → Bool}
+    {strong : ℕ → ℕ → Option Name} → NamesShow z o.names kinds → UnitsShow z o units → RootsShow z o.names roots rooted strong
     → ((n : Name) → rooted n ≡ true → list_any (λ u. has u n) units ≡ true) → (i : ℕ) → get_or roots i false ≡ true → (n : Name) × LivesAt o.names o.lives i n × (rooted n ≡ true)
 root_at {o = o} {roots = roots} {rooted = rooted} ns us rs living i e = go (name_at o.names i) refl
   where
@@ -125,7 +128,8 @@ root_at {o = o} {roots = roots} {rooted = rooted} ns us rs living i e = go (name
         (n, subst (λ (k : ℕ). LivesAt o.names o.lives k n) same j.1, is)
 
 pub keep_run : (z : Sizes) (o : Objects) (roots : List Bool) (s : State) (earlier : List World) (marked : List Bool) (listed grey heads : List ℕ) (count : ℕ)
-    → AreApart s.world.kinds s.world.units → NamesShow z o.names s.world.kinds → UnitsShow z o s.world.units → RootsShow z o.names roots s.world.rooted s.world.strong → ((n : Name) → s.world.rooted n ≡ true → in_world s.world n ≡ true)
+    → AreApart s.world.kinds s.world.units → NamesShow z o.names s.world.kinds → UnitsShow z o s.world.units
+    → RootsShow z o.names roots s.world.rooted s.world.strong → ((n : Name) → s.world.rooted n ≡ true → in_world s.world n ≡ true)
     → s.world.phase ≡ Marking → s.collector.started ≡ true → s.collector.agreed ≡ None → s.marks.moments ≡ s.world ∷ earlier → s.marks.scanned ≡ [] → length marked ≡ item_count z
     → MarksShow o s.world.units marked listed grey s.marks.kept s.marks.fresh s.marks.scanned → CanKeep o.firsts roots count marked heads
     → KeepRun z o (all_set marked heads) (listed ++ heads) (grey ++ heads) s (names_at o.names heads)
@@ -150,7 +154,9 @@ keep_run z o roots s earlier marked listed grey (head ∷ heads) count apart ns 
     let has_root : has u root.0 ≡ true = stands.whole r.0 root.0 root.1 r.3 in
     let is_root : IsRootUnit (graph s.world) (unit_of s.world n) = subst (λ (v : List Name). IsRootUnit (graph s.world) v) (sym unit_is) (root.0, has_root, inl root.2) in
     let rest = keep_run z o roots (next s entry) s.marks.moments (set marked head true) (listed ++ head ∷ []) (grey ++ head ∷ []) heads count apart ns us rs living marking started refl refl black
-    (length-set marked head true ∙ len) (mark_one ns us apart head u n stands member.2 can.1 inside (λ e. absurd (none_has u (subst (λ (ns : List Name). list_any (has ns) u ≡ true) black e))) marks) can.2 in
+    (length-set marked head true ∙ len)
+    (mark_one ns us apart head u n stands member.2 can.1 inside
+    (λ e. absurd (none_has u (subst (λ (ns : List Name). list_any (has ns) u ≡ true) black e))) marks) can.2 in
     let may : MayBy z s Collector (act.Kept n) = record {
       finishes = agreed;
       may = record {
@@ -182,7 +188,8 @@ unmarked o units marked clear = record {
   all_grey = λ head u t e. absurd (none_has u (and_true _ _ e).0);
 }
 
-module _ {z : Sizes} {p : Parts} {h new : List Entry} {cleared marked : List Bool} {work : List ℕ} {pushed : ℕ} (was : IsPlain z p h) (open_none : count_by (λ is_open. is_open) p.frames ≡ 0) (idle : p.phase ≡ Idle) (none_left : p.left ≡ 0)
+module _ {z : Sizes} {p : Parts} {h new : List Entry} {cleared marked : List Bool} {work : List ℕ} {pushed : ℕ} (was : IsPlain z p h)
+    (open_none : count_by (λ is_open. is_open) p.frames ≡ 0) (idle : p.phase ≡ Idle) (none_left : p.left ≡ 0)
     (count : ℕ) (count_is : count ≡ length p.marked) (clear : Filled p.marked cleared 0 count (λ k. false))
     (keeps : Keeps p.names p.firsts p.roots (length p.roots) cleared marked p.work work pushed (h ++ record { pass = Collector; act = act.BeginGc begin.Started } ∷ []) new) where
   abbrev s : Shows z p (state_of h)
@@ -212,7 +219,9 @@ module _ {z : Sizes} {p : Parts} {h new : List Entry} {cleared marked : List Boo
   removals_none = none_of_none _ (sym (left_idle _ _ _ _ s.removed.left_is idle) ∙ none_left)
 
   ran : KeepRun z p.objects (all_set cleared heads) heads heads s1 of
-  ran = keep_run z p.objects p.roots s1 [] cleared [] [] heads (length p.roots) (units_apart z h was.legal) s.names s.units s.roots (named_lives_holds z h was.legal).rooted refl refl refl refl refl (clear.len ∙ s.work.marked_len)
+  ran =
+      keep_run z p.objects p.roots s1 [] cleared [] [] heads (length p.roots) (units_apart z h was.legal) s.names s.units s.roots
+      (named_lives_holds z h was.legal).rooted refl refl refl refl refl (clear.len ∙ s.work.marked_len)
       (unmarked p.objects (after h).units cleared all_clear) keeps.can
 
   may_start : MayBy z (state_of h) Collector (act.BeginGc begin.Started)
@@ -273,7 +282,9 @@ module _ {z : Sizes} {p : Parts} {h new : List Entry} {cleared marked : List Boo
       let j = at.1.inside r has_r in
       let below : j.0 < item_count z = omega (arith, name_below p.names j.0 r j.1.name, s.names.items) in
       let bit : get_or p.roots j.0 false ≡ true = s.roots.bits.each j.0 false below ∙ ap (rooted_at (after h).rooted) j.1.name ∙ rooted in
-      let set_now : get_or (all_set cleared heads) at.0 false ≡ true = ap (λ (xs : List Bool). get_or xs at.0 false) (sym keeps.bits) ∙ ap (λ (x : ℕ). get_or marked x false) (sym j.2) ∙ keeps.each j.0 (omega (arith, s.roots.bits.len)) bit in
+      let set_now : get_or (all_set cleared heads) at.0 false ≡ true =
+      ap (λ (xs : List Bool). get_or xs at.0 false) (sym keeps.bits) ∙ ap (λ (x : ℕ). get_or marked x false) (sym j.2)
+      ∙ keeps.each j.0 (omega (arith, s.roots.bits.len)) bit in
       let member = member_at s.units at.0 u at.1 in
       among_test (has u) of member.0 (among_names_at p.names heads at.0 member.0 (listed at.0 (set_among cleared heads at.0 set_now)) member.1.name) member.2
     where
@@ -284,7 +295,8 @@ module _ {z : Sizes} {p : Parts} {h new : List Entry} {cleared marked : List Boo
 
   pub started : Done z q h new Collector (act.BeginGc begin.Started)
   started = subst (λ (es : List Entry). Done z q h es Collector (act.BeginGc begin.Started)) (sym whole)
-      (does Collector (act.BeginGc begin.Started) (act.BeginGc begin.Started ∷ map act.Kept of) was (record { of = of; are = refl }, record { roots = ran.roots; each = each_root }) (may_start, ran.legal)
+      (does Collector (act.BeginGc begin.Started) (act.BeginGc begin.Started ∷ map act.Kept of) was
+      (record { of = of; are = refl }, record { roots = ran.roots; each = each_root }) (may_start, ran.legal)
       (subst (λ (w : World). ShowsWorld z q w end.marks.kept end.marks.fresh end.marks.scanned end.collector.asked) (sym ran.world) shows_end))
 
 -- ---- what the call finds

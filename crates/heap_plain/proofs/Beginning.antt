@@ -24,7 +24,14 @@ use Rattle.heap_plain.proofs.Stacking.{length-full_stacks, get_or-full_stacks}
 abbrev pub new_parts : ℕ → ℕ → ℕ → Parts
 new_parts lanes quota slots = record {
   gate = record { phase = Idle; frames = replicate lanes false };
-  objects = record { names = replicate (lanes * quota) None; firsts = replicate (lanes * quota) 0; sizes = replicate (lanes * quota) 0; next = replicate (lanes * quota) 0; lives = replicate (lanes * quota) Free };
+  objects =
+      record {
+        names = replicate (lanes * quota) None;
+        firsts = replicate (lanes * quota) 0;
+        sizes = replicate (lanes * quota) 0;
+        next = replicate (lanes * quota) 0;
+        lives = replicate (lanes * quota) Free;
+      };
   rows = record { kinds = replicate (lanes * quota) no_kind; targets = replicate (lanes * quota * slots) None; plains = replicate (lanes * quota * slots) 0 };
   roots = replicate (lanes * quota) false;
   garbage = replicate (lanes * quota) false;
@@ -124,7 +131,12 @@ begins z lawful = record {
       cells = record {
         targets_len = length-replicate _ _;
         plains_len = length-replicate _ _;
-        in_range = λ i slot t below e. absurd (let none : target_at z.slots (replicate (item_count z * z.slots) None) i slot ≡ None = same_everywhere {A = Option ℕ} (item_count z * z.slots) (i * z.slots + slot) None in cc);
+        in_range =
+            λ i slot t below e.
+            absurd
+            (let none : target_at z.slots (replicate (item_count z * z.slots) None) i slot ≡ None =
+            same_everywhere {A = Option ℕ} (item_count z * z.slots) (i * z.slots + slot) None in
+            cc);
         aims = λ i n slot there. absurd (no_name _ i n there.name);
         no_more = λ i n slot there. absurd (no_name _ i n there.name);
         numbers = λ i n slot there. absurd (no_name _ i n there.name);
@@ -132,7 +144,14 @@ begins z lawful = record {
       };
     };
     roots = record {
-      bits = record { len = length-replicate _ _; each = λ k d below. get_or-replicate (item_count z) k false d below ∙ sym (ap (rooted_at (λ (n : Name). false)) (same_everywhere {A = Option Name} (item_count z) k None)) };
+      bits =
+          record {
+            len = length-replicate _ _;
+            each =
+                λ k d below.
+                get_or-replicate (item_count z) k false d below
+                ∙ sym (ap (rooted_at (λ (n : Name). false)) (same_everywhere {A = Option Name} (item_count z) k None));
+          };
       no_strong = λ lane number. refl;
     };
     garbage = record { len = length-replicate _ _; each = λ i n there. absurd (no_name _ i n there.name) };

@@ -1,5 +1,5 @@
 -- Kinds and cells, while objects come and go, and cells that are written.
-use Rattle.std.proofs.Common.{◌≡◌, ◌≢◌, ℕ, ◌+◌, ◌*◌, ◌<◌, ◌≤◌, refl, sym, subst, ap, ◌∙◌, inl, arith, Bool, cond, true, false, List, [], ◌∷◌, ◌++◌, length, get_or, Option, Some, None}
+use Rattle.std.proofs.Common.{◌≡◌, ◌≢◌, ℕ, ◌+◌, ◌*◌, ◌<◌, ◌≤◌, refl, sym, subst, ap, ◌∙◌, arith, Bool, cond, true, false, List, length, get_or, Option, Some, None}
 use Rattle.std.proofs.Math.ListN.{set}
 use Rattle.std.proofs.Math.Logic.{dite}
 use Rattle.std.proofs.Math.Decide.{ℕ_discrete, dec_le}
@@ -8,10 +8,9 @@ use Rattle.std.proofs.lemmas.List.{length-set, get_or-set_same, get_or-set_other
 use Rattle.world_model.specs.Sizes.{Sizes, item_count}
 use Rattle.world_model.specs.NameLists.{same_name, set_at, set_name}
 use Rattle.world_model.proofs.NameFacts.{same_name_true, same_name_refl, set_at_same}
-use Rattle.world_model.proofs.ListFacts.{among_left, among_right}
 use Rattle.heap_plain.specs.Types.{Name, Kind}
 use Rattle.heap_plain.specs.declared.life.Life.{Life}
-use Rattle.heap_plain.specs.Parts.{name_at, first_at, kind_at, target_at}
+use Rattle.heap_plain.specs.Parts.{name_at, kind_at, target_at}
 use Rattle.heap_plain.specs.Units.{NamesShow, LivesAt}
 use Rattle.heap_plain.specs.Cells.{Aims, KindsShow, CellsShow}
 use Rattle.heap_plain.proofs.WorldFacts.{set_at_other}
@@ -20,7 +19,8 @@ use Rattle.heap_plain.proofs.Standing.{name_below}
 
 -- ---- what a cell holds
 
-pub aims_map : {names ns : List (Option Name)} {lives ls : List Life} (o : Option ℕ) (c : Option Name) → ((t : ℕ) (m : Name) → c ≡ Some m → LivesAt names lives t m → LivesAt ns ls t m) → Aims names lives o c → Aims ns ls o c
+pub aims_map : {names ns : List (Option Name)} {lives ls : List Life} (o : Option ℕ) (c : Option Name)
+    → ((t : ℕ) (m : Name) → c ≡ Some m → LivesAt names lives t m → LivesAt ns ls t m) → Aims names lives o c → Aims ns ls o c
 aims_map None None f a = tt
 aims_map None (Some m) f a = absurd a
 aims_map (Some t) None f a = absurd a
@@ -39,21 +39,25 @@ aims_name None (Some n) m a e = absurd a
 aims_name {names} {lives} (Some t) (Some n) m a e = (t, refl, subst (λ (x : Name). LivesAt names lives t x) (let s = e in cc) a)
 
 -- a cell that names an object is a reference cell
-pub cell_ref : {z : Sizes} {names : List (Option Name)} {lives : List Life} {stored : List Kind} {targets : List (Option ℕ)} {plains : List ℕ} {kinds : ℕ → List Kind} {cell : Name → ℕ → Option Name} {plain : Name → ℕ → ℕ}
+pub cell_ref : {z : Sizes} {names : List (Option Name)} {lives : List Life} {stored : List Kind} {targets : List (Option ℕ)} {plains : List ℕ}
+    {kinds : ℕ → List Kind} {cell : Name → ℕ → Option Name} {plain : Name → ℕ → ℕ}
     → CellsShow z names lives stored targets plains kinds cell plain → (i : ℕ) (n : Name) (slot : ℕ) (m : Name) → LivesAt names lives i n → cell n slot ≡ Some m → slot < (kind_at stored i).refs
 cell_ref {stored = stored} s i n slot m there e = dite (dec_le (kind_at stored i).refs slot)
     (λ (le : (kind_at stored i).refs ≤ slot). absurd (let none = s.no_more i n slot there le in cc))
     (λ (le : ¬ ((kind_at stored i).refs ≤ slot)). lt_of_not-le le)
 
 -- and so one of the row
-pub cell_below : {z : Sizes} {names : List (Option Name)} {lives : List Life} {stored : List Kind} {targets : List (Option ℕ)} {plains : List ℕ} {kinds : ℕ → List Kind} {cell : Name → ℕ → Option Name} {plain : Name → ℕ → ℕ}
-    → KindsShow z names stored kinds → CellsShow z names lives stored targets plains kinds cell plain → (i : ℕ) (n : Name) (slot : ℕ) (m : Name) → LivesAt names lives i n → cell n slot ≡ Some m → slot < z.slots
+pub cell_below : {z : Sizes} {names : List (Option Name)} {lives : List Life} {stored : List Kind} {targets : List (Option ℕ)} {plains : List ℕ}
+    {kinds : ℕ → List Kind} {cell : Name → ℕ → Option Name} {plain : Name → ℕ → ℕ}
+    → KindsShow z names stored kinds → CellsShow z names lives stored targets plains kinds cell plain → (i : ℕ) (n : Name) (slot : ℕ) (m : Name)
+    → LivesAt names lives i n → cell n slot ≡ Some m → slot < z.slots
 cell_below {z} {stored = stored} ks s i n slot m there e = let b = cell_ref s i n slot m there e in omega (arith, ks.fit i)
 
 -- ---- objects that go
 
 -- where an object that is left lives as it did, and so do those that its cells name
-pub cells_less : {z : Sizes} {names ns : List (Option Name)} {lives ls : List Life} {stored : List Kind} {targets : List (Option ℕ)} {plains : List ℕ} {kinds : ℕ → List Kind} {cell : Name → ℕ → Option Name} {plain : Name → ℕ → ℕ}
+pub cells_less : {z : Sizes} {names ns : List (Option Name)} {lives ls : List Life} {stored : List Kind} {targets : List (Option ℕ)} {plains : List ℕ}
+    {kinds : ℕ → List Kind} {cell : Name → ℕ → Option Name} {plain : Name → ℕ → ℕ}
     → ((i : ℕ) (n : Name) → LivesAt ns ls i n → LivesAt names lives i n)
     → ((i : ℕ) (n : Name) (slot t : ℕ) (m : Name) → LivesAt ns ls i n → cell n slot ≡ Some m → LivesAt names lives t m → LivesAt ns ls t m)
     → CellsShow z names lives stored targets plains kinds cell plain → CellsShow z ns ls stored targets plains kinds cell plain
@@ -79,7 +83,8 @@ written_else {A} f n m slot s v ne = go (same_name m n) refl
     go false e = refl
     go true e = let same = same_name_true m n e in set_at_other (f n) slot s v (ne same) ∙ ap (λ (x : Name). f x s) (sym same)
 
-module _ {z : Sizes} {names : List (Option Name)} {lives : List Life} {stored : List Kind} {targets : List (Option ℕ)} {plains : List ℕ} {kinds : ℕ → List Kind} {cell : Name → ℕ → Option Name} {plain : Name → ℕ → ℕ} (i : ℕ) (n : Name) (slot : ℕ)
+module _ {z : Sizes} {names : List (Option Name)} {lives : List Life} {stored : List Kind} {targets : List (Option ℕ)} {plains : List ℕ}
+    {kinds : ℕ → List Kind} {cell : Name → ℕ → Option Name} {plain : Name → ℕ → ℕ} (i : ℕ) (n : Name) (slot : ℕ)
     (ns : NamesShow z names kinds) (here : LivesAt names lives i n) (below : slot < z.slots) (s : CellsShow z names lives stored targets plains kinds cell plain) where
   abbrev place : ℕ
   place = i * z.slots + slot
@@ -104,7 +109,9 @@ module _ {z : Sizes} {names : List (Option Name)} {lives : List Life} {stored : 
         (λ (ne : j * z.slots + k ≢ place). s.in_range j k t low (sym (get_or-set_other targets place (j * z.slots + k) to None ne) ∙ e));
     aims = λ j m k there low. dite (ℕ_discrete (j * z.slots + k) place)
         (λ (at : j * z.slots + k ≡ place). new_cell j m k there low at)
-        (λ (ne : j * z.slots + k ≢ place). subst (λ (o : Option ℕ). Aims names lives o (set_name cell n (set_at (cell n) slot to_name) m k)) (sym (get_or-set_other targets place (j * z.slots + k) to None ne))
+        (λ (ne : j * z.slots + k ≢ place).
+        subst (λ (o : Option ℕ). Aims names lives o (set_name cell n (set_at (cell n) slot to_name) m k))
+        (sym (get_or-set_other targets place (j * z.slots + k) to None ne))
         (subst (λ (c : Option Name). Aims names lives (target_at z.slots targets j k) c) (sym (written_else cell n m slot k to_name (elsewhere j m k there ne))) (s.aims j m k there low)));
     no_more = λ j m k there over. written_else cell n m slot k to_name (λ same at. absurd (beyond j m k there over same at)) ∙ s.no_more j m k there over;
     numbers = s.numbers;
@@ -114,7 +121,8 @@ module _ {z : Sizes} {names : List (Option Name)} {lives : List Life} {stored : 
       inside : place < length targets
       inside = omega (arith, place_below, s.targets_len)
 
-      new_cell : (j : ℕ) (m : Name) (k : ℕ) → LivesAt names lives j m → k < z.slots → j * z.slots + k ≡ place → Aims names lives (target_at z.slots (set targets place to) j k) (set_name cell n (set_at (cell n) slot to_name) m k)
+      new_cell : (j : ℕ) (m : Name) (k : ℕ) → LivesAt names lives j m → k < z.slots → j * z.slots + k ≡ place
+          → Aims names lives (target_at z.slots (set targets place to) j k) (set_name cell n (set_at (cell n) slot to_name) m k)
       new_cell j m k there low at =
           let row : j ≡ i = same_row z.slots j i k slot low below at in
           let rows : j * z.slots ≡ i * z.slots = ap (λ (x : ℕ). x * z.slots) row in
@@ -146,7 +154,9 @@ module _ {z : Sizes} {names : List (Option Name)} {lives : List Life} {stored : 
         let name : m ≡ n = (let a = sym (ap (name_at names) row) ∙ there.name in let b = here.name in cc) in
         ap (λ (x : ℕ). get_or (set plains place value) x 0) at ∙ get_or-set_same plains place value 0 (omega (arith, place_below, s.plains_len))
         ∙ sym ((λ t. set_name plain n (set_at (plain n) slot value) (name t) (col t)) ∙ written_there plain n slot value))
-        (λ (ne : j * z.slots + k ≢ place). get_or-set_other plains place (j * z.slots + k) value 0 ne ∙ s.numbers j m k there low ∙ sym (written_else plain n m slot k value (elsewhere j m k there ne)));
+        (λ (ne : j * z.slots + k ≢ place).
+        get_or-set_other plains place (j * z.slots + k) value 0 ne ∙ s.numbers j m k there low
+        ∙ sym (written_else plain n m slot k value (elsewhere j m k there ne)));
     unmade_plain = λ m k more. written_else plain n m slot k value (λ same at.
         let count : m.count ≡ n.count = ap (λ (x : Name). x.count) same in
         let len : length (kinds m.lane) ≡ length (kinds n.lane) = ap (λ (x : Name). length (kinds x.lane)) same in

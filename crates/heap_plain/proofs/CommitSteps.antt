@@ -1,5 +1,5 @@
 -- Committing a collection.
-use Rattle.std.proofs.Common.{◌≡◌, ◌≢◌, ℕ, ◌+◌, ◌-◌, ◌<◌, ◌≤◌, ◌&&◌, ◌||◌, not, refl, sym, subst, ap, ◌∙◌, inl, inr, arith, Bool, cond, true, false, List, [], ◌∷◌, ◌++◌, length, get_or, map, take, filter, count_by, count_ones, Option, Some, None}
+use Rattle.std.proofs.Common.{◌≡◌, ◌≢◌, ℕ, ◌-◌, ◌<◌, ◌≤◌, ◌&&◌, ◌||◌, not, refl, sym, subst, ap, ◌∙◌, inl, inr, arith, Bool, true, false, List, [], ◌∷◌, ◌++◌, length, get_or, map, take, filter, count_by, count_ones, Option, Some, None}
 use Rattle.std.proofs.Math.Logic.{dite}
 use Rattle.std.proofs.Math.Decide.{dec_le}
 use Rattle.std.proofs.Math.Nat.{lt_of_not-le}
@@ -15,7 +15,7 @@ use Rattle.world_model.specs.Next.{committed, next, run}
 use Rattle.world_model.specs.Histories.{MayBy, after, state_of}
 use Rattle.world_model.specs.Calls.{by, CommitsAlone}
 use Rattle.world_model.specs.Follows.{NamesLive}
-use Rattle.world_model.proofs.ListFacts.{Among, contains_among, among_contains, filter_among, among_filter, among_filter_test, among_left, among_right}
+use Rattle.world_model.proofs.ListFacts.{Among, among_contains, filter_among, among_filter, among_filter_test, among_left, among_right}
 use Rattle.world_model.proofs.NameFacts.{has_among, among_members}
 use Rattle.world_model.proofs.Joins.{legal_join}
 use Rattle.world_model.proofs.Inductions.{one_more}
@@ -87,7 +87,8 @@ one_bit = refl
 some_not_none : {A : Type 0} (xs : List A) → 0 < length xs → xs ≢ []
 some_not_none xs h e = let len : length xs ≡ 0 = ap (λ (ys : List _). length ys) e in absurd (omega arith)
 
-may_refuse : {z : Sizes} {p : Parts} {h : List Entry} (reply : Commit) → IsPlain z p h → MayEnd p.phase (p.pushed - p.scanned) (count_by (λ is_open. is_open) p.frames) reply → is_done reply ≡ false → CommitMay (state_of h) reply
+may_refuse : {z : Sizes} {p : Parts} {h : List Entry} (reply : Commit) → IsPlain z p h
+    → MayEnd p.phase (p.pushed - p.scanned) (count_by (λ is_open. is_open) p.frames) reply → is_done reply ≡ false → CommitMay (state_of h) reply
 may_refuse commit.Done was m other = absurd cc
 may_refuse (commit.NotMarking at) was m other = (m.0 ∙ was.shows.phase, λ e. m.1 (sym m.0 ∙ e))
 may_refuse {h = h} (commit.Unfinished word bits) was m other =
@@ -97,7 +98,8 @@ may_refuse {h = h} (commit.Unfinished word bits) was m other =
 may_refuse commit.Stores was m other = absurd m
 may_refuse (commit.Frames n) was m other = (sym was.shows.phase ∙ m.0, (m.2 ∙ was.shows.frames.count, omega (arith, m.2, m.3)))
 
-commits_alone : {z : Sizes} {p : Parts} {h : List Entry} (reply : Commit) → IsPlain z p h → MayEnd p.phase (p.pushed - p.scanned) (count_by (λ is_open. is_open) p.frames) reply → CommitsAlone (state_of h) reply
+commits_alone : {z : Sizes} {p : Parts} {h : List Entry} (reply : Commit) → IsPlain z p h
+    → MayEnd p.phase (p.pushed - p.scanned) (count_by (λ is_open. is_open) p.frames) reply → CommitsAlone (state_of h) reply
 commits_alone {h = h} commit.Done was m = record { unfinished = λ e. ((λ t. absurd cc), (λ ne. absurd (ne (none_grey (state_of h) was.shows m.1)))); no_stores = λ e. cc }
 commits_alone (commit.NotMarking at) was m = record { unfinished = λ e. absurd (m.1 (was.shows.phase ∙ e)); no_stores = λ e. cc }
 commits_alone {h = h} (commit.Unfinished word bits) was m = record { unfinished = λ e. ((λ t. some_not_none _ (some_grey (state_of h) was.shows m.0 m.1)), (λ ne. refl)); no_stores = λ e. cc }
@@ -105,9 +107,12 @@ commits_alone commit.Stores was m = absurd m
 commits_alone {h = h} (commit.Frames n) was m = record { unfinished = λ e. ((λ t. absurd cc), (λ ne. absurd (ne (none_grey (state_of h) was.shows m.1)))); no_stores = λ e. cc }
 
 -- a refusal changes nothing
-pub refuses_commit : {z : Sizes} {p : Parts} {h : List Entry} (reply : Commit) → IsPlain z p h → MayEnd p.phase (p.pushed - p.scanned) (count_by (λ is_open. is_open) p.frames) reply → is_done reply ≡ false
+pub refuses_commit : {z : Sizes} {p : Parts} {h : List Entry} (reply : Commit) → IsPlain z p h
+    → MayEnd p.phase (p.pushed - p.scanned) (count_by (λ is_open. is_open) p.frames) reply → is_done reply ≡ false
     → Done z p h (h ++ record { pass = Collector; act = act.CommitGc reply } ∷ []) Collector (act.CommitGc reply)
-refuses_commit {z} {p} {h} reply was m other = does Collector (act.CommitGc reply) (act.CommitGc reply ∷ []) was (refl, commits_alone reply was m) (record { finishes = was.rest.between.agreed; may = may_refuse reply was m other }, tt) (stays reply other)
+refuses_commit {z} {p} {h} reply was m other =
+    does Collector (act.CommitGc reply) (act.CommitGc reply ∷ []) was (refl, commits_alone reply was m)
+    (record { finishes = was.rest.between.agreed; may = may_refuse reply was m other }, tt) (stays reply other)
   where
     stays : (r : Commit) → is_done r ≡ false → Shows z p (run (state_of h) (by Collector (act.CommitGc r ∷ [])))
     stays commit.Done e = absurd cc
@@ -159,8 +164,11 @@ not_flip : (b : Bool) → not b ≡ true → b ≡ false
 not_flip false e = refl
 not_flip true e = absurd cc
 
-module _ {z : Sizes} {p : Parts} {h : List Entry} {lives : List Life} (was : IsPlain z p h) (marking : p.phase ≡ Marking) (black : p.pushed - p.scanned ≡ 0) (open_none : count_by (λ is_open. is_open) p.frames ≡ 0)
-    (removes : Removes p.firsts p.marked p.lives lives (length p.lives)) {polls waiting : List ℕ} (cleared : Filled p.polls polls 0 (length p.polls) (λ k. 0)) (copied : Filled p.waiting waiting 0 (length p.sizes) (λ k. get_or p.sizes k 0)) where
+module _ {z : Sizes} {p : Parts} {h : List Entry} {lives : List Life} (was : IsPlain z p h) (marking : p.phase ≡ Marking)
+    (black : p.pushed - p.scanned ≡ 0) (open_none : count_by (λ is_open. is_open) p.frames ≡ 0)
+    (removes : Removes p.firsts p.marked p.lives lives (length p.lives)) {polls waiting : List ℕ}
+    (cleared : Filled p.polls polls 0 (length p.polls) (λ k. 0))
+    (copied : Filled p.waiting waiting 0 (length p.sizes) (λ k. get_or p.sizes k 0)) where
   abbrev s : Shows z p (state_of h)
   s = was.shows
 
@@ -316,7 +324,8 @@ module _ {z : Sizes} {p : Parts} {h : List Entry} {lives : List Life} (was : IsP
 
   cells_kept : CellsShow z p.names lives p.kinds p.targets p.plains w.kinds w.cell w.plain
   cells_kept = cells_less (λ i n a. record { name = a.name; life = (was_live i a.life).0 })
-      (λ i n slot t x there cell a. let j = lives_at units_kept x (lives_on.cells n slot x (lives_in units_kept i n there) cell) in subst (λ (k : ℕ). LivesAt p.names lives k x) (s.names.alone j.0 t x j.1.name a.name) j.1) s.cells
+      (λ i n slot t x there cell a. let j = lives_at units_kept x (lives_on.cells n slot x (lives_in units_kept i n there) cell) in
+      subst (λ (k : ℕ). LivesAt p.names lives k x) (s.names.alone j.0 t x j.1.name a.name) j.1) s.cells
 
   -- ---- removed objects, free indexes
 
@@ -415,7 +424,13 @@ module _ {z : Sizes} {p : Parts} {h : List Entry} {lives : List Life} (was : IsP
     count = λ lane b. omega (arith, s.free.count lane b, occupied_next z h done_entry was.legal may_commit lane);
   }
 
-  pub commits : Done z (record p { gate = record (p.gate) { phase = Gathering }; objects = o'; ends = record { left = 0; swept = 0; order = p.order; listed = 0; begun = 0; from = 0; kept = 0; polls = polls; waiting = waiting; done = None } }) h (h ++ done_entry ∷ []) Collector (act.CommitGc commit.Done)
+  pub commits : Done z
+      (record p {
+        gate = record (p.gate) { phase = Gathering };
+        objects = o';
+        ends =
+            record { left = 0; swept = 0; order = p.order; listed = 0; begun = 0; from = 0; kept = 0; polls = polls; waiting = waiting; done = None };
+      }) h (h ++ done_entry ∷ []) Collector (act.CommitGc commit.Done)
   commits = does Collector (act.CommitGc commit.Done) (act.CommitGc commit.Done ∷ []) was (refl, commits_alone commit.Done was (marking, black, open_none)) (may_commit, tt) record {
     gate = record { phase = refl; frames = s.frames };
     objects = record { names = s.names; units = units_kept };

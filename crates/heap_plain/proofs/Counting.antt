@@ -8,11 +8,12 @@ use Rattle.world_model.specs.Follows.{made_by, freed_by}
 use Rattle.world_model.proofs.ListFacts.{Among}
 use Rattle.world_model.proofs.Counts.{count-cons, count_names, next_total}
 use Rattle.world_model.proofs.Sound.{sound}
-use Rattle.heap_plain.specs.Types.{Name, Entry}
+use Rattle.heap_plain.specs.Types.{Entry}
 
 -- the objects of a lane become more by what an entry makes, and fewer by what it releases
 pub occupied_next : (z : Sizes) (h : List Entry) (e : Entry) → Legal z h → May z (state_of h) e → (lane : ℕ)
-    → occupied (next_world (state_of h).marks (after h) e.pass e.act) lane + count_by (λ n. n.lane == lane) (freed_by (after h) e.act) ≡ occupied (after h) lane + count_by (λ n. n.lane == lane) (made_by e.pass e.act)
+    → occupied (next_world (state_of h).marks (after h) e.pass e.act) lane + count_by (λ n. n.lane == lane) (freed_by (after h) e.act)
+    ≡ occupied (after h) lane + count_by (λ n. n.lane == lane) (made_by e.pass e.act)
 occupied_next z h e legal may lane =
     let total = next_total z (state_of h) e.pass e.act may (sound z h legal).destroying.unmarked (λ n. n.lane == lane) in
     let new = count_names (λ n. n.lane == lane) (next_world (state_of h).marks (after h) e.pass e.act).removals in

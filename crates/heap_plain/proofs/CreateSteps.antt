@@ -10,8 +10,8 @@ use Rattle.std.proofs.lemmas.List.Sums.{sum_by-append}
 use Rattle.std.proofs.lemmas.Grind.{flat_map-append}
 use Rattle.world_model.specs.Sizes.{Sizes, item_count}
 use Rattle.world_model.specs.NameLists.{same_name, has, names_from, members, set_at}
-use Rattle.world_model.specs.World.{made, occupied, Removal}
-use Rattle.world_model.specs.State.{Marks, State}
+use Rattle.world_model.specs.World.{made, occupied}
+use Rattle.world_model.specs.State.{Marks}
 use Rattle.world_model.specs.Next.{with_unit}
 use Rattle.world_model.specs.LaneSteps.{is_lawful}
 use Rattle.world_model.specs.Histories.{after, state_of, MayBy}
@@ -49,7 +49,8 @@ use Rattle.heap_plain.proofs.Popping.{lane_below, Where, where_is, popped_lane, 
 use Rattle.heap_plain.proofs.NewNames.{length-names_from, has_in_row, row_place, count_row}
 
 -- a creation, and what its writes leave of the vectors
-pub record Creation (z : Sizes) (p : Parts) (h : List Entry) (l m : ℕ) (more : List Kind) (ns : List (Option Name)) (fs nx : List ℕ) (ks : List Kind) (ts : List (Option ℕ)) (ps : List ℕ) (ls : List Life) (gs : List Bool) : Type 0 where
+pub record Creation (z : Sizes) (p : Parts) (h : List Entry) (l m : ℕ) (more : List Kind) (ns : List (Option Name)) (fs nx : List ℕ) (ks : List Kind)
+    (ts : List (Option ℕ)) (ps : List ℕ) (ls : List Life) (gs : List Bool) : Type 0 where
   pub was : IsPlain z p h
   pub frame : IsInFrame z h l
   pub is : m ≡ made (after h) l
@@ -67,7 +68,8 @@ pub record Creation (z : Sizes) (p : Parts) (h : List Entry) (l m : ℕ) (more :
   pub by_next : FilledAt p.next nx (popped p.free (l * z.quota + spare_at p.spare l)) (length more - 1) (λ k. popped p.free (l * z.quota + spare_at p.spare l) (k + 1))
   pub by_garbage : FilledAt p.garbage gs (popped p.free (l * z.quota + spare_at p.spare l)) (length more) (λ k. false)
 
-module _ {z : Sizes} {p : Parts} {h : List Entry} {l m : ℕ} {more : List Kind} {ns : List (Option Name)} {fs nx : List ℕ} {ks : List Kind} {ts : List (Option ℕ)} {ps : List ℕ} {ls : List Life} {gs : List Bool} (new : Creation z p h l m more ns fs nx ks ts ps ls gs) where
+module _ {z : Sizes} {p : Parts} {h : List Entry} {l m : ℕ} {more : List Kind} {ns : List (Option Name)} {fs nx : List ℕ} {ks : List Kind}
+    {ts : List (Option ℕ)} {ps : List ℕ} {ls : List Life} {gs : List Bool} (new : Creation z p h l m more ns fs nx ks ts ps ls gs) where
   abbrev s : Shows z p (state_of h)
   s = new.was.shows
 
@@ -180,11 +182,17 @@ module _ {z : Sizes} {p : Parts} {h : List Entry} {l m : ℕ} {more : List Kind}
       (λ ne. omega arith)
 
   own_kinds : length (new_kinds l) ≡ m + length more
-  own_kinds = let len = length-append ((after h).kinds l) more in ap (λ (x : List Kind). length x) (set_at_same (after h).kinds l ((after h).kinds l ++ more)) ∙ len ∙ ap (λ k. k + length more) (sym new.is)
+  own_kinds = let len = length-append ((after h).kinds l) more in
+      ap (λ (x : List Kind). length x) (set_at_same (after h).kinds l ((after h).kinds l ++ more)) ∙ len ∙ ap (λ k. k + length more) (sym new.is)
 
   place_new : (i : ℕ) (n : Name) → Where at (length more) i → name_at ns i ≡ Some n → IsPlace z new_kinds n i
   place_new i n (inl w) e = subst (λ (x : Name). IsPlace z new_kinds x i) (sym (name_is w.0 i n w.1 w.2 e))
-      (record { lane = new.frame.in_range; some = omega arith; few = omega (arith, own_kinds, w.1); at = subst (λ (j : ℕ). IsOfLane z l j) (sym w.2) (popped_lane s.free l (length more) new.frame.in_range new.room w.0 w.1) })
+      (record {
+        lane = new.frame.in_range;
+        some = omega arith;
+        few = omega (arith, own_kinds, w.1);
+        at = subst (λ (j : ℕ). IsOfLane z l j) (sym w.2) (popped_lane s.free l (length more) new.frame.in_range new.room w.0 w.1);
+      })
   place_new i n (inr o) e = let place = s.names.places i n (sym (name_out i o) ∙ e) in record { lane = place.lane; some = place.some; few = omega (arith, place.few, grown n.lane); at = place.at }
 
   new_name : (k i : ℕ) (n : Name) → k < length more → i ≡ at k → name_at ns i ≡ Some n → has unit n ≡ true
@@ -233,7 +241,8 @@ module _ {z : Sizes} {p : Parts} {h : List Entry} {l m : ℕ} {more : List Kind}
   linked_new k count (kind ∷ []) len at_count = (name_in k (at k) (omega arith) refl ∙ ap (λ (c : ℕ). Some (record { lane = l; count = c })) (sym at_count), tt)
   linked_new k count (kind ∷ next_kind ∷ kinds) len at_count = (
     name_in k (at k) (omega arith) refl ∙ ap (λ (c : ℕ). Some (record { lane = l; count = c })) (sym at_count),
-    subst (λ (j : ℕ). AreLinked ns nx j (names_from l (count + 1) (next_kind ∷ kinds))) (sym (next_in k (omega arith))) (linked_new (k + 1) (count + 1) (next_kind ∷ kinds) (omega arith) (omega arith)),
+    subst (λ (j : ℕ). AreLinked ns nx j (names_from l (count + 1) (next_kind ∷ kinds))) (sym (next_in k (omega arith)))
+        (linked_new (k + 1) (count + 1) (next_kind ∷ kinds) (omega arith) (omega arith)),
   )
 
   stands_new : StandsAt o' new_units first unit
@@ -272,7 +281,9 @@ module _ {z : Sizes} {p : Parts} {h : List Entry} {l m : ℕ} {more : List Kind}
 
       small : (i : ℕ) → get_or sizes' i 0 ≤ 1024
       small i = dite (ℕ_discrete i first)
-          (λ (e : i ≡ first). let t : get_or sizes' i 0 ≡ length more = ap (λ (j : ℕ). get_or sizes' j 0) e ∙ get_or-set_same p.sizes first (length more) 0 (omega (arith, within, s.units.sizes_len)) in omega arith)
+          (λ (e : i ≡ first). let t : get_or sizes' i 0 ≡ length more =
+          ap (λ (j : ℕ). get_or sizes' j 0) e ∙ get_or-set_same p.sizes first (length more) 0 (omega (arith, within, s.units.sizes_len)) in
+          omega arith)
           (λ (ne : i ≢ first). let t = get_or-set_other p.sizes first i (length more) 0 ne in omega (arith, s.units.small i))
 
       named : (i : ℕ) → life_at ls i ≢ Free → Where at (length more) i → (n : Name) × (name_at ns i ≡ Some n)
@@ -308,7 +319,9 @@ module _ {z : Sizes} {p : Parts} {h : List Entry} {l m : ℕ} {more : List Kind}
 
   free_new : FreeShows z ns ls p.free (set p.spare l (spare_at p.spare l - length more)) (occupied (with_unit (after h) l more (m + 1)))
   free_new = free_popped s.free l (length more) new.frame.in_range new.room ns ls _ new.by_life name_out (λ k.
-      let live : count_by (λ n. n.lane == k) (members new_units) ≡ count_by (λ n. n.lane == k) (members (after h).units) + count_by (λ n. n.lane == k) unit = ap (λ (x : List Name). count_by (λ n. n.lane == k) x) all_members ∙ sum_by-append _ (members (after h).units) unit in
+      let live : count_by (λ n. n.lane == k) (members new_units)
+      ≡ count_by (λ n. n.lane == k) (members (after h).units) + count_by (λ n. n.lane == k) unit =
+      ap (λ (x : List Name). count_by (λ n. n.lane == k) x) all_members ∙ sum_by-append _ (members (after h).units) unit in
       omega (arith, count_row l (m + 1) k more))
 
   -- ---- roots
@@ -371,7 +384,8 @@ module _ {z : Sizes} {p : Parts} {h : List Entry} {l m : ℕ} {more : List Kind}
       let e = has_in_row l (m + 1) more 0 (omega arith) in
       among_test (λ n. has kept n || has (unit ++ fresh_now) n) unit n (has_among unit n e) (or_right (has kept n) _ (list_any-append (same_name n) unit fresh_now ∙ ap (λ b. b || has fresh_now n) e))
 
-  old_fresh : (kept fresh_now u : List Name) (head : ℕ) → StandsAt p.objects (after h).units head u → list_any (λ n. has kept n || has fresh_now n) u ≡ list_any (λ n. has kept n || has (unit ++ fresh_now) n) u
+  old_fresh : (kept fresh_now u : List Name) (head : ℕ) → StandsAt p.objects (after h).units head u
+      → list_any (λ n. has kept n || has fresh_now n) u ≡ list_any (λ n. has kept n || has (unit ++ fresh_now) n) u
   old_fresh kept fresh_now u head t = any_same _ _ u (λ n a. let j = t.inside n (among_has u n a) in
       ap (λ b. has kept n || b) (sym (list_any-append (same_name n) unit fresh_now ∙ ap (λ b. b || has fresh_now n) (old_other j.0 n j.1.name))))
 
@@ -392,7 +406,9 @@ module _ {z : Sizes} {p : Parts} {h : List Entry} {l m : ℕ} {more : List Kind}
 
       bits : (head : ℕ) (u : List Name) → EitherUnit head u → get_or marked' head false ≡ list_any (λ n. has marks.kept n || has (unit ++ marks.fresh) n) u
       bits head u (inl t) = get_or-set_other p.marked first head true false (not_first head (live_out head t.life)) ∙ k.bits head u t ∙ old_fresh marks.kept marks.fresh u head t
-      bits head u (inr (same, here)) = ap (λ (j : ℕ). get_or marked' j false) here ∙ first_marked ∙ sym (ap (λ (x : List Name). list_any (λ n. has marks.kept n || has (unit ++ marks.fresh) n) x) same ∙ unit_fresh marks.kept marks.fresh)
+      bits head u (inr (same, here)) =
+          ap (λ (j : ℕ). get_or marked' j false) here ∙ first_marked
+          ∙ sym (ap (λ (x : List Name). list_any (λ n. has marks.kept n || has (unit ++ marks.fresh) n) x) same ∙ unit_fresh marks.kept marks.fresh)
 
       all_grey : (head : ℕ) (u : List Name) → EitherUnit head u → (list_any (has marks.kept) u && not (list_any (has marks.scanned) u)) ≡ true → Among (grey_of p.work p.scanned p.pushed) head
       all_grey head u (inl t) e = k.all_grey head u t e
@@ -575,7 +591,17 @@ module _ {z : Sizes} {p : Parts} {h : List Entry} {l m : ℕ} {more : List Kind}
   abbrev made_entry : Entry
   made_entry = record { pass = Lane l; act = act.Make more (m + 1) }
 
-  pub creates : Done z (record { gate = p.gate; objects = o'; rows = record { kinds = ks; targets = ts; plains = ps }; roots = p.roots; garbage = gs; colours = record (p.colours) { marked = marked' }; stock = record { free = p.free; spare = set p.spare l (spare_at p.spare l - length more); made = set p.made l (m + length more) }; ends = p.ends }) h (h ++ made_entry ∷ []) (Lane l) (act.Make more (m + 1))
+  pub creates : Done z
+      (record {
+        gate = p.gate;
+        objects = o';
+        rows = record { kinds = ks; targets = ts; plains = ps };
+        roots = p.roots;
+        garbage = gs;
+        colours = record (p.colours) { marked = marked' };
+        stock = record { free = p.free; spare = set p.spare l (spare_at p.spare l - length more); made = set p.made l (m + length more) };
+        ends = p.ends;
+      }) h (h ++ made_entry ∷ []) (Lane l) (act.Make more (m + 1))
   creates = does (Lane l) (act.Make more (m + 1)) (act.Make more (m + 1) ∷ []) new.was (refl, tt) (may_make, tt) record {
     gate = s.gate;
     objects = record { names = names_new; units = units_new };
@@ -584,7 +610,15 @@ module _ {z : Sizes} {p : Parts} {h : List Entry} {l m : ℕ} {more : List Kind}
     garbage = garbage_new;
     colours = record { work = work_new; idle = s.idle; marks = marks_new };
     stock = record { made = made_new; free = free_new };
-    ends = record { removed = removed_new; gone = gone_new; order = s.order; gathers = λ e. gather_more keeps_name (s.gathers e); queue = λ e. queue_more keeps_name (s.queue e); none_asked = s.none_asked };
+    ends =
+        record {
+          removed = removed_new;
+          gone = gone_new;
+          order = s.order;
+          gathers = λ e. gather_more keeps_name (s.gathers e);
+          queue = λ e. queue_more keeps_name (s.queue e);
+          none_asked = s.none_asked;
+        };
   }
 
   -- what was held is held

@@ -48,7 +48,8 @@ use Rattle.heap_plain.proofs.RootSteps as root
 abbrev pub with_work : Parts → List ℕ → Parts
 with_work p work = record p { colours = record (p.colours) { work = work } }
 
-module _ {z : Sizes} {p : Parts} {h : List Entry} {l : ℕ} {at : Ref} (was : IsPlain z p h) (frame : IsInFrame z h l) (held : Holds record { history = h; names = p.names } l at) (own : at.name.lane ≡ l) where
+module _ {z : Sizes} {p : Parts} {h : List Entry} {l : ℕ} {at : Ref} (was : IsPlain z p h) (frame : IsInFrame z h l)
+    (held : Holds record { history = h; names = p.names } l at) (own : at.name.lane ≡ l) where
   abbrev s : Shows z p (state_of h)
   s = was.shows
 
@@ -94,7 +95,17 @@ module _ {z : Sizes} {p : Parts} {h : List Entry} {l : ℕ} {at : Ref} (was : Is
           of = [];
           grown = sym (append-nil h);
           legal = was.legal;
-          shows = record { gate = s.gate; objects = s.objects; rows = s.rows; roots = s.roots; garbage = s.garbage; colours = record { work = work_listed; idle = s.idle; marks = λ m. absurd (unmarked m) }; stock = s.stock; ends = s.ends };
+          shows =
+              record {
+                gate = s.gate;
+                objects = s.objects;
+                rows = s.rows;
+                roots = s.roots;
+                garbage = s.garbage;
+                colours = record { work = work_listed; idle = s.idle; marks = λ m. absurd (unmarked m) };
+                stock = s.stock;
+                ends = s.ends;
+              };
           front = u;
           stands = stands;
           midway = subst (λ (v : List Name). IsMidway z (state_of h) l (unit_of (after h) at.name) v) unit_is (starts_midway z h l at.name was.legal frame.in_range ask (λ e. unmarked (s.phase ∙ e)));
@@ -143,7 +154,8 @@ module _ {z : Sizes} {old : Shown} {lane : ℕ} {at : Name} {head count left : �
   head_within : head < item_count z
   head_within = let m = head_first in omega (arith, name_below p.names head m.0 m.1, k.names.items)
 
-  module _ (more : 1 < left) (firsts' sizes' : List ℕ) (new : List Entry) (name : Name) (named : name_at p.names gone_to ≡ Some name) (noted : new ≡ h ++ record { pass = Lane lane; act = act.Loose name } ∷ []) (parted : firsts' ≡ set p.firsts gone_to gone_to)
+  module _ (more : 1 < left) (firsts' sizes' : List ℕ) (new : List Entry) (name : Name) (named : name_at p.names gone_to ≡ Some name)
+      (noted : new ≡ h ++ record { pass = Lane lane; act = act.Loose name } ∷ []) (parted : firsts' ≡ set p.firsts gone_to gone_to)
       (sized : sizes' ≡ set (set p.sizes gone_to 1) head next_to) where
     last : (n : Name) × (ends_with n i.front ≡ true)
     last = last_of i.front (left - 2) (let s = i.size in omega arith)
@@ -181,7 +193,13 @@ module _ {z : Sizes} {old : Shown} {lane : ℕ} {at : Name} {head count left : �
     shows_next : Shows z q (next (state_of h) e)
     shows_next = record {
       gate = k.gate;
-      objects = record { names = k.names; units = over (λ (o : Objects). UnitsShow z o (next (state_of h) e).world.units) (units_left k.names k.units i.midway.apart head i.front i.stands n last.1 next_to long some head_within) };
+      objects =
+          record {
+            names = k.names;
+            units =
+                over (λ (o : Objects). UnitsShow z o (next (state_of h) e).world.units)
+                (units_left k.names k.units i.midway.apart head i.front i.stands n last.1 next_to long some head_within);
+          };
       rows = k.rows;
       roots = k.roots;
       garbage = k.garbage;
@@ -189,7 +207,9 @@ module _ {z : Sizes} {old : Shown} {lane : ℕ} {at : Name} {head count left : �
       stock = record { made = k.made; free = free_lives (lives_same p.lives) (λ l. let t = occupied_next z h e i.legal may_leave l in omega arith) k.free };
       ends = record {
         removed = k.removed;
-        gone = over (λ (o : Objects). GoneShow z o p.waiting (after h).removals (after h).last_removed) (gone_left k.names k.units i.midway.apart head i.front i.stands n last.1 next_to long some head_within k.gone);
+        gone =
+            over (λ (o : Objects). GoneShow z o p.waiting (after h).removals (after h).last_removed)
+            (gone_left k.names k.units i.midway.apart head i.front i.stands n last.1 next_to long some head_within k.gone);
         order = k.order;
         gathers = k.gathers;
         queue = k.queue;
@@ -201,13 +221,18 @@ module _ {z : Sizes} {old : Shown} {lane : ℕ} {at : Name} {head count left : �
     goes_on = record {
       rest = i.rest;
       of = i.of ++ n ∷ [];
-      grown = grown_one ∙ ap (λ (es : List Entry). es ++ e ∷ []) i.grown ∙ append_assoc old.history (by (Lane lane) (map act.Loose i.of)) (e ∷ []) ∙ ap (λ (es : List Entry). old.history ++ es) (sym (leaving_more lane i.of n));
+      grown =
+          grown_one ∙ ap (λ (es : List Entry). es ++ e ∷ []) i.grown ∙ append_assoc old.history (by (Lane lane) (map act.Loose i.of)) (e ∷ [])
+          ∙ ap (λ (es : List Entry). old.history ++ es) (sym (leaving_more lane i.of n));
       legal = subst (Legal z) (sym grown_one) ((histories_join.one_more z h e).1 (i.legal, may_leave));
       shows = subst (λ (t : State). Shows z q t) (sym left_is) shows_next;
       front = but_last i.front;
       stands = subst (λ (t : State). StandsAt q.objects t.world.units head (but_last i.front)) (sym left_is)
-          (over (λ (o : Objects). StandsAt o (next (state_of h) e).world.units head (but_last i.front)) (stands_front k.names k.units i.midway.apart head i.front i.stands n last.1 next_to long some head_within));
-      midway = subst (λ (t : State). IsMidway z t lane (unit_of (after old.history) at) (but_last i.front)) (sym left_is) (midway1 z (state_of h) lane (unit_of (after old.history) at) i.front i.midway n last.1 (none_loosened z h i.legal lane));
+          (over (λ (o : Objects). StandsAt o (next (state_of h) e).world.units head (but_last i.front))
+          (stands_front k.names k.units i.midway.apart head i.front i.stands n last.1 next_to long some head_within));
+      midway =
+          subst (λ (t : State). IsMidway z t lane (unit_of (after old.history) at) (but_last i.front)) (sym left_is)
+          (midway1 z (state_of h) lane (unit_of (after old.history) at) i.front i.midway n last.1 (none_loosened z h i.legal lane));
       counted = i.counted;
       size = sym (front_size k.names k.units i.midway.apart head i.front i.stands n last.1 next_to long);
       room = let r = i.room in omega arith;
@@ -234,7 +259,8 @@ module _ {z : Sizes} {old : Shown} {lane : ℕ} {at : Name} {head count left : �
 
     may_close : May z (state_of h) last_entry
     may_close = subst (λ (c : ℕ). May z (state_of h) (record { pass = Lane lane; act = act.Dissolve at c })) (sym i.counted)
-        (ready_closes z (state_of h) lane (unit_of (after old.history) at) one_front.0 at i.member i.own (subst (λ (u : List Name). IsMidway z (state_of h) lane (unit_of (after old.history) at) u) one_front.1 i.midway))
+        (ready_closes z (state_of h) lane (unit_of (after old.history) at) one_front.0 at i.member i.own
+        (subst (λ (u : List Name). IsMidway z (state_of h) lane (unit_of (after old.history) at) u) one_front.1 i.midway))
 
     pub parts : Done z p old.history (h ++ last_entry ∷ []) (Lane lane) (act.Dissolve at count)
     parts = record {
@@ -249,7 +275,10 @@ module _ {z : Sizes} {old : Shown} {lane : ℕ} {at : Name} {head count left : �
         entries = record {
           acts = map act.Loose i.of ++ act.Dissolve at count ∷ [];
           call = (record { of = i.of; are = refl }, i.rest.between.whole lane);
-          grown = ap (λ (es : List Entry). es ++ last_entry ∷ []) i.grown ∙ append_assoc old.history (by (Lane lane) (map act.Loose i.of)) (last_entry ∷ []) ∙ ap (λ (es : List Entry). old.history ++ es) (sym (by-append (Lane lane) (map act.Loose i.of) (act.Dissolve at count ∷ [])));
+          grown =
+              ap (λ (es : List Entry). es ++ last_entry ∷ []) i.grown
+              ∙ append_assoc old.history (by (Lane lane) (map act.Loose i.of)) (last_entry ∷ [])
+              ∙ ap (λ (es : List Entry). old.history ++ es) (sym (by-append (Lane lane) (map act.Loose i.of) (act.Dissolve at count ∷ [])));
           legal = legal_end;
         }
 

@@ -1,5 +1,5 @@
 -- The objects of a unit are taken off their indexes, one after the other.
-use Rattle.std.proofs.Common.{◌≡◌, ◌≢◌, ℕ, ◌+◌, ◌*◌, ◌<◌, ◌^◌, ◌==◌, ◌||◌, refl, sym, subst, ap, ◌∙◌, inl, inr, zero, suc, arith, Bool, cond, true, false, List, [], ◌∷◌, ◌++◌, length, map, count_by, Option, Some, None, is_some, unwrap_or}
+use Rattle.std.proofs.Common.{◌≡◌, ◌≢◌, ℕ, ◌+◌, ◌*◌, ◌<◌, ◌^◌, ◌==◌, ◌||◌, refl, sym, subst, ap, ◌∙◌, inl, inr, zero, suc, arith, Bool, cond, true, false, List, [], ◌∷◌, length, count_by, Option, Some, None, is_some, unwrap_or}
 use Rattle.std.proofs.Math.ListN.{set}
 use Rattle.std.proofs.Math.Logic.{dite}
 use Rattle.std.proofs.Math.Decide.{ℕ_discrete}
@@ -148,12 +148,17 @@ module _ (z : Sizes) (s : Stocks) (links : List ℕ) (i : ℕ) (n : Name) (v : L
       by_life = after.end.by_life;
       out = λ j m h a. out j m h a;
       others = λ j f.
-          let ne : j ≢ i = λ same. let t : name_at s.names j ≡ Some n = ap (name_at s.names) same ∙ at in let u = f n t in let w = same_name_refl n in absurd (let first = (or_false (same_name n n) (has v n) u).0 in cc) in
+          let ne : j ≢ i = λ same. let t : name_at s.names j ≡ Some n = ap (name_at s.names) same ∙ at in
+          let u = f n t in
+          let w = same_name_refl n in
+          absurd (let first = (or_false (same_name n n) (has v n) u).0 in cc) in
           let o = after.end.others j (λ m h. (or_false (same_name m n) (has v m) (f m (was j m h).1)).1) in
           (o.0 ∙ other_name j ne, o.1 ∙ other_life j ne);
     }
       where
-        out : (j : ℕ) (m : Name) → name_at s.names j ≡ Some m → has (n ∷ v) m ≡ true → (name_at (give_all z.quota (give_by z.quota s i n.lane) links (next_at links i) (length v)).names j ≡ None) × (life_at (give_all z.quota (give_by z.quota s i n.lane) links (next_at links i) (length v)).lives j ≡ Free)
+        out : (j : ℕ) (m : Name) → name_at s.names j ≡ Some m → has (n ∷ v) m ≡ true
+            → (name_at (give_all z.quota (give_by z.quota s i n.lane) links (next_at links i) (length v)).names j ≡ None)
+            × (life_at (give_all z.quota (give_by z.quota s i n.lane) links (next_at links i) (length v)).lives j ≡ Free)
         out j m h a = dite (ℕ_discrete j i)
             (λ (same : j ≡ i).
             let none : name_at (set s.names i None) j ≡ None = ap (name_at (set s.names i None)) same ∙ none_here in

@@ -1,5 +1,5 @@
 -- A plain heap after the entries of a call.
-use Rattle.std.proofs.Common.{◌≡◌, sym, subst, List, ◌++◌}
+use Rattle.std.proofs.Common.{sym, subst, List, ◌++◌}
 use Rattle.world_model.specs.Sizes.{Sizes}
 use Rattle.world_model.specs.State.{State}
 use Rattle.world_model.specs.Next.{run}
@@ -22,6 +22,7 @@ pub ends : {z : Sizes} {p q : Parts} {h new : List Entry} {pass : Pass} {a : Act
 ends was entries shows = record { plain = record { legal = entries.legal; rest = rests entries was.rest; shows = shows }; entries = entries }
 
 -- the same by what the entries leave
-pub does : {z : Sizes} {p q : Parts} {h : List Entry} (pass : Pass) (a : Act) (acts : List Act) → IsPlain z p h → CallOf (state_of h) pass a acts → LegalFrom z (state_of h) (by pass acts) → Shows z q (run (state_of h) (by pass acts))
+pub does : {z : Sizes} {p q : Parts} {h : List Entry} (pass : Pass) (a : Act) (acts : List Act) → IsPlain z p h → CallOf (state_of h) pass a acts
+    → LegalFrom z (state_of h) (by pass acts) → Shows z q (run (state_of h) (by pass acts))
     → Done z q h (h ++ by pass acts) pass a
 does {z} {q = q} {h} pass a acts was call legal shows = ends was (solo z h pass a acts call was.legal legal) (subst (λ (s : State). Shows z q s) (sym (state_more h (by pass acts))) shows)

@@ -14,7 +14,8 @@ pub Filled-none : {A : Type 0} (xs : List A) (from : ℕ) (f : ℕ → A) → Fi
 Filled-none xs from f = record { len = refl; inside = λ k d below. absurd (omega arith); outside = λ i d h. refl }
 
 -- one more place is written
-pub Filled-more : {A : Type 0} (old new : List A) (from k at : ℕ) (f : ℕ → A) (v : A) → Filled old new from k f → at ≡ from + k → from + k < length old → v ≡ f k → Filled old (set new at v) from (k + 1) f
+pub Filled-more : {A : Type 0} (old new : List A) (from k at : ℕ) (f : ℕ → A) (v : A) → Filled old new from k f → at ≡ from + k
+    → from + k < length old → v ≡ f k → Filled old (set new at v) from (k + 1) f
 Filled-more old new from k at f v was here below same = record {
   len = length-set new at v ∙ was.len;
   inside = λ j d less. dite (ℕ_discrete j k)
@@ -39,7 +40,8 @@ from_start {new} {f} h k d below = let none : 0 + k ≡ k = omega arith in subst
 pub FilledAt-none : {A : Type 0} (xs : List A) (at : ℕ → ℕ) (f : ℕ → A) → FilledAt xs xs at 0 f
 FilledAt-none xs at f = record { len = refl; inside = λ k d below. absurd (omega arith); outside = λ i d h. refl }
 
-pub FilledAt-more : {A : Type 0} (old new : List A) (at : ℕ → ℕ) (k here : ℕ) (f : ℕ → A) (v : A) → FilledAt old new at k f → here ≡ at k → at k < length old → ((j : ℕ) → j < k → at j ≢ at k) → v ≡ f k → FilledAt old (set new here v) at (k + 1) f
+pub FilledAt-more : {A : Type 0} (old new : List A) (at : ℕ → ℕ) (k here : ℕ) (f : ℕ → A) (v : A) → FilledAt old new at k f → here ≡ at k
+    → at k < length old → ((j : ℕ) → j < k → at j ≢ at k) → v ≡ f k → FilledAt old (set new here v) at (k + 1) f
 FilledAt-more old new at k here f v was is below once same = record {
   len = length-set new here v ∙ was.len;
   inside = λ j d less. dite (ℕ_discrete j k)
@@ -73,13 +75,17 @@ pub row_below : (slots i n slot : ℕ) → i < n → slot < slots → i * slots 
 row_below slots i n slot h below = let more : suc i ≤ n = omega arith in omega (arith, mul-le-mul_right slots more, suc-mul i slots)
 
 -- one more row is filled
-pub RowsFilled-more : {A : Type 0} (old mid new : List A) (at : ℕ → ℕ) (k here slots : ℕ) (v : A) → RowsFilled old mid at k slots v → here ≡ at k → Filled mid new (here * slots) slots (λ j. v) → RowsFilled old new at (k + 1) slots v
+pub RowsFilled-more : {A : Type 0} (old mid new : List A) (at : ℕ → ℕ) (k here slots : ℕ) (v : A) → RowsFilled old mid at k slots v → here ≡ at k
+    → Filled mid new (here * slots) slots (λ j. v) → RowsFilled old new at (k + 1) slots v
 RowsFilled-more {A} old mid new at k here slots v was is row = record {
   len = row.len ∙ was.len;
   inside = λ j slot d less below. dite (ℕ_discrete (at j) here)
       (λ (e : at j ≡ here). ap (λ (r : ℕ). get_or new (r * slots + slot) d) e ∙ row.inside slot d below)
       (λ (ne : at j ≢ here). row.outside (at j * slots + slot) d (rows_apart slots (at j) here slot ne below) ∙ was.inside j slot d (before j less ne) below);
-  outside = λ i slot d below h. row.outside (i * slots + slot) d (rows_apart slots i here slot (λ e. h k (omega arith) (sym is ∙ sym e)) below) ∙ was.outside i slot d below (λ j low. h j (omega arith));
+  outside =
+      λ i slot d below h.
+      row.outside (i * slots + slot) d (rows_apart slots i here slot (λ e. h k (omega arith) (sym is ∙ sym e)) below)
+      ∙ was.outside i slot d below (λ j low. h j (omega arith));
 }
   where
     before : (j : ℕ) → j < k + 1 → at j ≢ here → j < k

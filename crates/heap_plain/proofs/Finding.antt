@@ -10,11 +10,14 @@ use Rattle.heap_plain.specs.declared.life.Life.TheVariants.{Free}
 use Rattle.heap_plain.specs.Parts.{name_at, life_at, first_at}
 use Rattle.heap_plain.specs.Sweeping.{removed_name, removed_names, without, Removes}
 
-pub removed_more : (names : List (Option Name)) (lives : List Life) (from count : ℕ) → removed_names names lives from (count + 1) ≡ removed_names names lives from count ++ removed_name (life_at lives (from + count)) (name_at names (from + count))
+pub removed_more : (names : List (Option Name)) (lives : List Life) (from count : ℕ)
+    → removed_names names lives from (count + 1)
+    ≡ removed_names names lives from count ++ removed_name (life_at lives (from + count)) (name_at names (from + count))
 removed_more names lives from count = ap (removed_names names lives from) (add-one count)
 
 -- the ranges of indexes in a row
-pub removed_append : (names : List (Option Name)) (lives : List Life) (from a b : ℕ) → removed_names names lives from (a + b) ≡ removed_names names lives from a ++ removed_names names lives (from + a) b
+pub removed_append : (names : List (Option Name)) (lives : List Life) (from a b : ℕ)
+    → removed_names names lives from (a + b) ≡ removed_names names lives from a ++ removed_names names lives (from + a) b
 removed_append names lives from a zero = ap (removed_names names lives from) none ∙ sym (append-nil (removed_names names lives from a))
   where
     none : a + 0 ≡ a
@@ -34,7 +37,8 @@ removed_same_names names ns lives ls same from zero = refl
 removed_same_names names ns lives ls same from (suc count) = λ t. removed_same_names names ns lives ls same from count t ++ same (from + count) t
 
 -- one more item after a commit
-pub removes_more : (firsts : List ℕ) (marked : List Bool) (old new : List Life) (i : ℕ) (v : Life) → Removes firsts marked old new i → i < length old → v ≡ without (life_at new i) (get_or marked (first_at firsts i) false)
+pub removes_more : (firsts : List ℕ) (marked : List Bool) (old new : List Life) (i : ℕ) (v : Life) → Removes firsts marked old new i → i < length old
+    → v ≡ without (life_at new i) (get_or marked (first_at firsts i) false)
     → Removes firsts marked old (set new i v) (i + 1)
 removes_more firsts marked old new i v was below is = record {
   len = length-set new i v ∙ was.len;

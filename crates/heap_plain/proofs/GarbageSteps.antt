@@ -27,7 +27,8 @@ pub garbage_fewer : {z : Sizes} {names ns : List (Option Name)} {lives ls : List
 garbage_fewer was g = record { len = g.len; each = λ i n there. g.each i n (was i n there) }
 
 -- one object more is garbage
-garbage_set : {z : Sizes} {names : List (Option Name)} {lives : List Life} {kinds : ℕ → List Kind} {bits : List Bool} {garbage : Name → Bool} (i : ℕ) (n : Name) → NamesShow z names kinds → i < item_count z → LivesAt names lives i n
+garbage_set : {z : Sizes} {names : List (Option Name)} {lives : List Life} {kinds : ℕ → List Kind} {bits : List Bool} {garbage : Name → Bool} (i : ℕ)
+    (n : Name) → NamesShow z names kinds → i < item_count z → LivesAt names lives i n
     → GarbageShow z names lives bits garbage → GarbageShow z names lives (set bits i true) (set_name garbage n true)
 garbage_set {z} {names} {lives} {bits = bits} {garbage} i n ns below here g = record {
   len = length-set bits i true ∙ g.len;
@@ -55,9 +56,24 @@ module _ {z : Sizes} {p : Parts} {h : List Entry} {l : ℕ} {at : Ref} (was : Is
   bit_is : get_or p.garbage at.index false ≡ (after h).garbage n
   bit_is = s.garbage.each at.index n (root.here was frame held)
 
-  pub marks : (old : Bool) → old ≡ get_or p.garbage at.index false → Done z (record p { garbage = set p.garbage at.index true }) h (h ++ record { pass = Lane l; act = act.MarkGarbage n old } ∷ []) (Lane l) (act.MarkGarbage n old)
-  marks old is = does (Lane l) (act.MarkGarbage n old) (act.MarkGarbage n old ∷ []) was (refl, tt) (record { in_range = frame.in_range; frame = in_open was.rest.between frame.opened; may = (held.given, is ∙ bit_is) }, tt)
-      record { gate = s.gate; objects = s.objects; rows = s.rows; roots = s.roots; garbage = garbage_set at.index n s.names (root.index_below was frame held) (root.here was frame held) s.garbage; colours = s.colours; stock = s.stock; ends = s.ends }
+  pub marks : (old : Bool) → old ≡ get_or p.garbage at.index false
+      → Done z (record p { garbage = set p.garbage at.index true }) h (h ++ record { pass = Lane l; act = act.MarkGarbage n old } ∷ []) (Lane l)
+      (act.MarkGarbage n old)
+  marks old is =
+      does (Lane l) (act.MarkGarbage n old) (act.MarkGarbage n old ∷ []) was (refl, tt)
+      (record { in_range = frame.in_range; frame = in_open was.rest.between frame.opened; may = (held.given, is ∙ bit_is) }, tt)
+      record {
+        gate = s.gate;
+        objects = s.objects;
+        rows = s.rows;
+        roots = s.roots;
+        garbage = garbage_set at.index n s.names (root.index_below was frame held) (root.here was frame held) s.garbage;
+        colours = s.colours;
+        stock = s.stock;
+        ends = s.ends;
+      }
 
   pub tells : (valid : Bool) → valid ≡ not (get_or p.garbage at.index false) → Done z p h (h ++ record { pass = Lane l; act = act.IsValid n valid } ∷ []) (Lane l) (act.IsValid n valid)
-  tells valid is = does (Lane l) (act.IsValid n valid) (act.IsValid n valid ∷ []) was (refl, tt) (record { in_range = frame.in_range; frame = in_open was.rest.between frame.opened; may = (held.given, is ∙ ap not bit_is) }, tt) s
+  tells valid is =
+      does (Lane l) (act.IsValid n valid) (act.IsValid n valid ∷ []) was (refl, tt)
+      (record { in_range = frame.in_range; frame = in_open was.rest.between frame.opened; may = (held.given, is ∙ ap not bit_is) }, tt) s

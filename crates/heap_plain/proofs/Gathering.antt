@@ -1,5 +1,5 @@
 -- The queue of destruction, as sweeps build it.
-use Rattle.std.proofs.Common.{◌≡◌, ◌≢◌, ℕ, ◌+◌, ◌<◌, ◌≤◌, ◌==◌, ◌||◌, ◌⊎◌, refl, sym, subst, ap, ◌∙◌, inl, inr, zero, suc, arith, Bool, cond, true, false, List, [], ◌∷◌, ◌++◌, append-nil, length, map, filter, flat_map, get_or, Option, Some}
+use Rattle.std.proofs.Common.{◌≡◌, ◌≢◌, ℕ, ◌+◌, ◌<◌, ◌≤◌, ◌==◌, ◌⊎◌, refl, sym, subst, ap, ◌∙◌, inl, inr, zero, suc, arith, Bool, cond, true, false, List, [], ◌∷◌, ◌++◌, append-nil, length, filter, get_or, Option, Some}
 use Rattle.std.proofs.Math.Logic.{dite}
 use Rattle.std.proofs.Math.Decide.{ℕ_discrete}
 use Rattle.std.proofs.lemmas.Bool.{eqb-true, eqb-false}
@@ -7,7 +7,7 @@ use Rattle.std.proofs.lemmas.Grind.{flat_map-append}
 use Rattle.world_model.specs.Sizes.{Sizes}
 use Rattle.world_model.specs.NameLists.{same_name, has, members, begins_with}
 use Rattle.world_model.specs.World.{Removal, Removed as AtRemoved}
-use Rattle.world_model.proofs.ListFacts.{Among, among_append, among_filter, among_filter_test, filter_among, among_left, among_right, test_among, among_test}
+use Rattle.world_model.proofs.ListFacts.{Among, among_filter, among_filter_test, among_test}
 use Rattle.world_model.proofs.NameFacts.{same_name_true, same_name_refl, among_members, among_has, has_among}
 use Rattle.world_model.proofs.Queues.{unit_in_order}
 use Rattle.world_model.proofs.Destroying.{order_of}
@@ -117,7 +117,8 @@ few_named names at of h d =
 
 -- ---- removed units
 
-module _ {z : Sizes} {o : Objects} {kinds : ℕ → List Kind} {waiting polls : List ℕ} {living : List (List Name)} {left swept looked : ℕ} {found : List Name} {removals : List Removal} {units : List (List Name)}
+module _ {z : Sizes} {o : Objects} {kinds : ℕ → List Kind} {waiting polls : List ℕ} {living : List (List Name)} {left swept looked : ℕ}
+    {found : List Name} {removals : List Removal} {units : List (List Name)}
     (ns : NamesShow z o.names kinds) (us : UnitsShow z o living) (rs : RemovedShow z o.names o.lives polls left swept Gathering removals found looked) (gs : GoneShow z o waiting removals units)
     (once : Distinct (members units)) (unbegun : (r : Removal) → Among removals r → r.stage ≡ AtRemoved) where
   abbrev Lies : ℕ → List Name → Type 0
@@ -175,7 +176,9 @@ module _ {z : Sizes} {o : Objects} {kinds : ℕ → List Kind} {waiting polls : 
           eqb-false (first_at o.firsts i) i own (ap (first_at o.firsts) (sym same) ∙ r.1.own ∙ same)) in
           rw none tt
 
-      go : (life : Life) → life_at o.lives i ≡ life → AreNamed o.names (cond (begins life (first_at o.firsts i) i) (chain o.next i (get_or o.sizes i 0)) []) (members (order_of units (removed_name life (name_at o.names i))))
+      go : (life : Life) → life_at o.lives i ≡ life
+          → AreNamed o.names (cond (begins life (first_at o.firsts i) i) (chain o.next i (get_or o.sizes i 0)) [])
+          (members (order_of units (removed_name life (name_at o.names i))))
       go Removed e =
           let n = name_there i (ap is_gone e) in
           subst (λ (q : Option Name). AreNamed o.names (cond (first_at o.firsts i == i) (chain o.next i (get_or o.sizes i 0)) []) (members (order_of units (removed_name Removed q)))) (sym n.1)

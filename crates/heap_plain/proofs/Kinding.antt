@@ -11,7 +11,9 @@ use Rattle.heap_plain.specs.Types.{Kind}
 use Rattle.heap_plain.specs.Parts.{no_kind, kind_at}
 
 pub slice_left : (xs ys : List Kind) (k : ℕ) → k < length xs → slice_get (xs ++ ys) k ≡ slice_get xs k
-slice_left xs ys k b = slice_get-get_or (xs ++ ys) k no_kind (omega (arith, length-append xs ys)) ∙ ap (λ (kind : Kind). Some kind) (get_or_append_left xs ys no_kind k b) ∙ sym (slice_get-get_or xs k no_kind b)
+slice_left xs ys k b =
+    slice_get-get_or (xs ++ ys) k no_kind (omega (arith, length-append xs ys))
+    ∙ ap (λ (kind : Kind). Some kind) (get_or_append_left xs ys no_kind k b) ∙ sym (slice_get-get_or xs k no_kind b)
 
 pub slice_right : (xs ys : List Kind) (k : ℕ) → k < length ys → slice_get (xs ++ ys) (length xs + k) ≡ Some (kind_at ys k)
 slice_right xs ys k b = slice_get-get_or (xs ++ ys) (length xs + k) no_kind (omega (arith, length-append xs ys)) ∙ ap (λ (kind : Kind). Some kind) (get_or-append-add xs ys k no_kind)

@@ -38,4 +38,3 @@ pub mod Restaging
 pub mod PurgeSteps
 pub mod Releasing
 pub mod Purges
-pub mod Opened

@@ -32,7 +32,8 @@ linked_named names links i [] h = tt
 linked_named names links i (n ∷ u) h = subst (λ (at : List ℕ). AreNamed names at (n ∷ u)) (sym (chain_next links i (length u))) (h.0, linked_named names links (next_at links i) u h.1)
 
 -- a member of a unit, along its links
-pub linked_member : (names : List (Option Name)) (links : List ℕ) (i : ℕ) (u : List Name) → AreLinked names links i u → (k : ℕ) → k < length u → (n : Name) × (name_at names (chained links i k) ≡ Some n) × (has u n ≡ true)
+pub linked_member : (names : List (Option Name)) (links : List ℕ) (i : ℕ) (u : List Name) → AreLinked names links i u → (k : ℕ) → k < length u
+    → (n : Name) × (name_at names (chained links i k) ≡ Some n) × (has u n ≡ true)
 linked_member names links i [] h k b = absurd (omega arith)
 linked_member names links i (n ∷ u) h zero b = (n, h.0, let t = same_name_refl n in rw t refl)
 linked_member names links i (n ∷ u) h (suc k) b =
@@ -41,7 +42,8 @@ linked_member names links i (n ∷ u) h (suc k) b =
 
 -- ---- units in a row
 
-units_more : (lives : List Life) (firsts sizes links : List ℕ) (from k : ℕ) → units_at lives firsts sizes links from (k + 1) ≡ units_at lives firsts sizes links from k ++ unit_at lives firsts sizes links (from + k)
+units_more : (lives : List Life) (firsts sizes links : List ℕ) (from k : ℕ)
+    → units_at lives firsts sizes links from (k + 1) ≡ units_at lives firsts sizes links from k ++ unit_at lives firsts sizes links (from + k)
 units_more lives firsts sizes links from k = ap (units_at lives firsts sizes links from) (add-one k)
 
 unit_there : (lives : List Life) (firsts sizes links : List ℕ) (i : ℕ) → begins (life_at lives i) (first_at firsts i) i ≡ true → unit_at lives firsts sizes links i ≡ chain links i (get_or sizes i 0)
@@ -51,13 +53,16 @@ unit_none : (lives : List Life) (firsts sizes links : List ℕ) (i : ℕ) → be
 unit_none lives firsts sizes links i e = ap (λ (b : Bool). cond b (chain links i (get_or sizes i 0)) []) e
 
 -- the next unit fits
-pub unit_fits : {lives : List Life} {firsts sizes links : List ℕ} {from count listed k all : ℕ} {old new : List ℕ} → CanList lives firsts sizes links from count listed (length old) → ListsUnits lives firsts sizes links from k listed all old new
+pub unit_fits : {lives : List Life} {firsts sizes links : List ℕ} {from count listed k all : ℕ} {old new : List ℕ}
+    → CanList lives firsts sizes links from count listed (length old) → ListsUnits lives firsts sizes links from k listed all old new
     → k < count → begins (life_at lives (from + k)) (first_at firsts (from + k)) (from + k) ≡ true → all + get_or sizes (from + k) 0 ≤ length new
 unit_fits {lives} {firsts} {sizes} {links} {from} {count} {listed} {k} can was below e =
     let fits = can.fits (k + 1) (omega arith) in
     let more = ap (λ (xs : List ℕ). length xs) (units_more lives firsts sizes links from k) in
     let a = length-append (units_at lives firsts sizes links from k) (unit_at lives firsts sizes links (from + k)) in
-    let size : length (unit_at lives firsts sizes links (from + k)) ≡ get_or sizes (from + k) 0 = ap (λ (xs : List ℕ). length xs) (unit_there lives firsts sizes links (from + k) e) ∙ length-chain links (from + k) (get_or sizes (from + k) 0) in
+    let size : length (unit_at lives firsts sizes links (from + k)) ≡ get_or sizes (from + k) 0 =
+    ap (λ (xs : List ℕ). length xs) (unit_there lives firsts sizes links (from + k) e)
+    ∙ length-chain links (from + k) (get_or sizes (from + k) 0) in
     omega (arith, was.end, was.len)
 
 -- ---- what is written
@@ -78,14 +83,17 @@ written ys links at i (suc count) room f =
     ∙ append_assoc (take at ys) (chain links i count) (chained links i count ∷ [])
 
 pub lists_unit : {lives : List Life} {firsts sizes links : List ℕ} {from listed k all size : ℕ} {old new next : List ℕ} → ListsUnits lives firsts sizes links from k listed all old new
-    → begins (life_at lives (from + k)) (first_at firsts (from + k)) (from + k) ≡ true → size ≡ get_or sizes (from + k) 0 → all + size ≤ length new → Filled new next all size (chained links (from + k))
+    → begins (life_at lives (from + k)) (first_at firsts (from + k)) (from + k) ≡ true → size ≡ get_or sizes (from + k) 0 → all + size ≤ length new
+    → Filled new next all size (chained links (from + k))
     → ListsUnits lives firsts sizes links from (k + 1) listed (all + size) old next
 lists_unit {lives} {firsts} {sizes} {links} {from} {listed} {k} {all} {size} {old} {new} {next} was e is room filled = record {
   len = filled.len ∙ was.len;
   end =
       let more = ap (λ (xs : List ℕ). length xs) (units_more lives firsts sizes links from k) in
       let a = length-append (units_at lives firsts sizes links from k) (unit_at lives firsts sizes links (from + k)) in
-      let len : length (unit_at lives firsts sizes links (from + k)) ≡ get_or sizes (from + k) 0 = ap (λ (xs : List ℕ). length xs) (unit_there lives firsts sizes links (from + k) e) ∙ length-chain links (from + k) (get_or sizes (from + k) 0) in
+      let len : length (unit_at lives firsts sizes links (from + k)) ≡ get_or sizes (from + k) 0 =
+      ap (λ (xs : List ℕ). length xs) (unit_there lives firsts sizes links (from + k) e)
+      ∙ length-chain links (from + k) (get_or sizes (from + k) 0) in
       omega (arith, was.end);
   order =
       written next links all (from + k) size (omega (arith, filled.len)) (λ j h. filled.inside j 0 h)
@@ -104,4 +112,8 @@ lists_none {lives} {firsts} {sizes} {links} {from} {listed} {k} {all} {old} {new
 }
   where
     same : units_at lives firsts sizes links from k ≡ units_at lives firsts sizes links from (k + 1)
-    same = sym (units_more lives firsts sizes links from k ∙ ap (λ (xs : List ℕ). units_at lives firsts sizes links from k ++ xs) (unit_none lives firsts sizes links (from + k) e) ∙ append-nil (units_at lives firsts sizes links from k))
+    same =
+        sym
+        (units_more lives firsts sizes links from k
+        ∙ ap (λ (xs : List ℕ). units_at lives firsts sizes links from k ++ xs) (unit_none lives firsts sizes links (from + k) e)
+        ∙ append-nil (units_at lives firsts sizes links from k))

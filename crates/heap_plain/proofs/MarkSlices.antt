@@ -1,20 +1,18 @@
 -- A slice of marking.
 use Rattle.std.proofs.Common.{◌≡◌, ◌≢◌, ℕ, ◌+◌, ◌<◌, ◌≤◌, not, refl, sym, subst, ap, ◌∙◌, inl, inr, zero, suc, arith, Bool, true, false, List, [], ◌∷◌, ◌++◌, length, length-append, get_or, map, take, drop, ◌⊎◌, filter, append_assoc, Option, Some, IsSome, is_some}
 use Rattle.std.specs.List.{list_any, list_all}
-use Rattle.std.proofs.Math.Logic.{dite}
-use Rattle.std.proofs.Math.Decide.{ℕ_discrete}
 use Rattle.std.proofs.lemmas.Bool.{and_from}
 use Rattle.std.proofs.lemmas.List.{drop-append-le, drop_all, drop_more, length-take-le, get_or-take}
 use Rattle.world_model.specs.Sizes.{Sizes, item_count}
 use Rattle.world_model.specs.NameLists.{same_pass, has}
 use Rattle.world_model.specs.World.{World, is_open}
-use Rattle.world_model.specs.State.{State, Slicing, Frame, is_grey, grey_in, grey_units, beginning}
+use Rattle.world_model.specs.State.{State, Slicing, is_grey, grey_in, grey_units, beginning}
 use Rattle.world_model.specs.Reach.{graph, Refers}
 use Rattle.world_model.specs.Next.{next, run}
 use Rattle.world_model.specs.MarkerSteps.{member_count, WasWithin, MayStop}
 use Rattle.world_model.specs.Histories.{MayBy, LegalFrom, Legal, after, state_of}
 use Rattle.world_model.specs.Calls.{by, is_mark_note, Appends}
-use Rattle.world_model.proofs.ListFacts.{Among, and_true, among_left, among_right}
+use Rattle.world_model.proofs.ListFacts.{Among, and_true}
 use Rattle.world_model.proofs.NameFacts.{set_at_same}
 use Rattle.world_model.proofs.Units.{AreApart, units_apart}
 use Rattle.world_model.proofs.Barrier.{barred}
@@ -22,8 +20,7 @@ use Rattle.world_model.proofs.Joins.{legal_join, legal_split}
 use Rattle.heap_plain.specs.Types.{Name, Ref, Pass, Marker, Marking, MarkStop, Marked, Act, Entry}
 use Rattle.heap_plain.specs.Types.act
 use Rattle.heap_plain.specs.Types.stop
-use Rattle.heap_plain.specs.declared.life.Life.TheVariants.{Live}
-use Rattle.heap_plain.specs.Parts.{Parts, Shown, Holds, name_at, life_at, first_at, kind_at, target_at}
+use Rattle.heap_plain.specs.Parts.{Parts, Shown, Holds, name_at, first_at, kind_at, target_at}
 use Rattle.heap_plain.specs.Listing.{chained}
 use Rattle.heap_plain.specs.Notes.{names_at, all_set, StopsBy}
 use Rattle.heap_plain.specs.Shading.{InUnit, IsWorklist, Shades}
@@ -36,7 +33,7 @@ use Rattle.heap_plain.proofs.WorldFacts.{same_pass_refl, none_out, state_more}
 use Rattle.heap_plain.proofs.Noting.{by-append, length-all_set}
 use Rattle.heap_plain.proofs.Resting.{rests, keeps}
 use Rattle.heap_plain.proofs.Entries.{Done}
-use Rattle.heap_plain.proofs.Standing.{member_at, name_below, bit_below, live_used}
+use Rattle.heap_plain.proofs.Standing.{member_at, name_below, bit_below}
 use Rattle.heap_plain.proofs.Listings.{linked_member}
 use Rattle.heap_plain.proofs.Cells.{aims_target, aims_name, cell_ref, cell_below}
 use Rattle.heap_plain.proofs.MarkSteps.{distinct_drop}
@@ -77,7 +74,8 @@ module _ (z : Sizes) (p : Parts) (h : List Entry) (marker budget : ℕ) (was : I
 
 -- ---- a unit is scanned
 
-module _ {z : Sizes} {old : Shown} {marker budget total : ℕ} {p : Parts} {history : List Entry} (i : IsSlicing z old marker budget total p history) (range : marker < z.markers) (more : p.scanned < p.pushed) where
+module _ {z : Sizes} {old : Shown} {marker budget total : ℕ} {p : Parts} {history : List Entry} (i : IsSlicing z old marker budget total p history)
+    (range : marker < z.markers) (more : p.scanned < p.pushed) where
   abbrev s : State
   s = state_of history
 
@@ -99,7 +97,9 @@ module _ {z : Sizes} {old : Shown} {marker budget total : ℕ} {p : Parts} {hist
 
   -- what was scanned was kept
   scanned_kept : (v : List Name) → Among w.units v → list_any (has s.marks.scanned) v ≡ true → list_any (has s.marks.kept) v ≡ true
-  scanned_kept v a = (barred z history i.legal).tricolour.scanned_kept (ap (λ (x : World). x.phase) i.sliced.world ∙ sym k.phase ∙ marking) v (subst (λ (x : World). Among x.units v) (sym i.sliced.world) a)
+  scanned_kept v a =
+      (barred z history i.legal).tricolour.scanned_kept (ap (λ (x : World). x.phase) i.sliced.world ∙ sym k.phase ∙ marking) v
+      (subst (λ (x : World). Among x.units v) (sym i.sliced.world) a)
 
   abbrev head : ℕ
   head = get_or p.work p.scanned 0
@@ -182,7 +182,9 @@ module _ {z : Sizes} {old : Shown} {marker budget total : ℕ} {p : Parts} {hist
   pub worklist : IsWorklist p.marked p.work p.pushed
   worklist = record { distinct = m.distinct; set = m.listed_marked; room = k.work.marked_len ∙ sym k.work.work_len; used = used }
 
-  module _ {marked' : List Bool} {work' : List ℕ} {pushed' : ℕ} {mid : List Entry} (less : total < budget) (n : Name) (named : name_at p.names head ≡ Some n) (sh : Shades p.names p.firsts At marker p.marked marked' p.work work' p.pushed pushed' history mid) where
+  module _ {marked' : List Bool} {work' : List ℕ} {pushed' : ℕ} {mid : List Entry} (less : total < budget) (n : Name)
+      (named : name_at p.names head ≡ Some n)
+      (sh : Shades p.names p.firsts At marker p.marked marked' p.work work' p.pushed pushed' history mid) where
     abbrev heads : List ℕ
     heads = sh.heads
 
@@ -295,7 +297,8 @@ module _ {z : Sizes} {old : Shown} {marker budget total : ℕ} {p : Parts} {hist
       earlier = ran.earlier;
       moments = ran.moments ∙ ap (λ (x : World). x ∷ ran.earlier) (sym ran.world);
       total_is =
-          let sum : member_count (end.slices marker).scanned ≡ length u + member_count (s.slices marker).scanned = ap (λ (us : List (List Name)). member_count us) ran.scanned ∙ count_cons (λ (v : List Name). length v) u (s.slices marker).scanned in
+          let sum : member_count (end.slices marker).scanned ≡ length u + member_count (s.slices marker).scanned =
+          ap (λ (us : List (List Name)). member_count us) ran.scanned ∙ count_cons (λ (v : List Name). length v) u (s.slices marker).scanned in
           omega (arith, i.sliced.total_is, stands.size);
       within = subst (λ (us : List (List Name)). WasWithin budget us) (sym ran.scanned) (omega (arith, i.sliced.total_is));
       shows = shows_end;
@@ -336,7 +339,8 @@ module _ {z : Sizes} {old : Shown} {marker budget total : ℕ} {p : Parts} {hist
 
 -- ---- the slice closes
 
-module _ {z : Sizes} {old : Shown} {marker budget total : ℕ} {p : Parts} {history : List Entry} (i : IsSlicing z old marker budget total p history) (range : marker < z.markers) (why : MarkStop) (stops : StopsBy total budget why) (done : total < budget → p.pushed ≤ p.scanned) where
+module _ {z : Sizes} {old : Shown} {marker budget total : ℕ} {p : Parts} {history : List Entry} (i : IsSlicing z old marker budget total p history)
+    (range : marker < z.markers) (why : MarkStop) (stops : StopsBy total budget why) (done : total < budget → p.pushed ≤ p.scanned) where
   abbrev c : State
   c = state_of history
 
@@ -357,7 +361,9 @@ module _ {z : Sizes} {old : Shown} {marker budget total : ℕ} {p : Parts} {hist
       (grey_empty v.phase c.marks v.units (λ e. filter_none (is_grey c.marks) v.units (λ unit a is.
       let at = h.units.all unit a in
       let among = (h.marks (h.phase ∙ e)).all_grey at.0 unit at.1 is in
-      let none : grey_of p.work p.scanned p.pushed ≡ [] = drop_all p.scanned (take p.pushed p.work) (omega (arith, done less, length-take-le p.pushed p.work (omega (arith, h.work.few, h.work.work_len)))) in
+      let none : grey_of p.work p.scanned p.pushed ≡ [] =
+      drop_all p.scanned (take p.pushed p.work)
+      (omega (arith, done less, length-take-le p.pushed p.work (omega (arith, h.work.few, h.work.work_len)))) in
       absurd (subst (λ (xs : List ℕ). Among xs at.0) none among))))
 
   may_stop : (how : MarkStop) → StopsBy total budget how → MayStop c marker budget reply how
@@ -413,4 +419,6 @@ module _ {z : Sizes} {old : Shown} {marker budget total : ℕ} {p : Parts} {hist
   }
 
   pub slice_held : (lane : ℕ) (r : Ref) → Holds old lane r → Holds (record { history = history ++ slice_entry ∷ []; names = p.names }) lane r
-  slice_held lane r held = subst (λ (ns : List (Option Name)). Holds (record { history = history ++ slice_entry ∷ []; names = ns }) lane r) (sym i.names) (keeps sliced_entries refl old.names lane r held)
+  slice_held lane r held =
+      subst (λ (ns : List (Option Name)). Holds (record { history = history ++ slice_entry ∷ []; names = ns }) lane r) (sym i.names)
+      (keeps sliced_entries refl old.names lane r held)

@@ -1,5 +1,5 @@
 -- Marking a unit, and the places of the worklist.
-use Rattle.std.proofs.Common.{◌≡◌, ◌≢◌, ℕ, ◌+◌, ◌<◌, ◌≤◌, ◌||◌, ◌&&◌, not, refl, sym, subst, ap, ◌∙◌, inl, inr, zero, suc, arith, Bool, true, false, List, [], ◌∷◌, ◌++◌, length, get_or, take, drop, ◌⊎◌, Option, Some}
+use Rattle.std.proofs.Common.{◌≡◌, ◌≢◌, ℕ, ◌+◌, ◌<◌, ◌≤◌, ◌||◌, ◌&&◌, not, refl, sym, subst, ap, ◌∙◌, inl, inr, zero, suc, arith, Bool, true, false, List, [], ◌∷◌, ◌++◌, length, get_or, take, drop, ◌⊎◌}
 use Rattle.std.specs.List.{list_any}
 use Rattle.std.proofs.Math.ListN.{set}
 use Rattle.std.proofs.Math.Logic.{dite}
@@ -8,7 +8,7 @@ use Rattle.std.proofs.lemmas.Bool.{and_from}
 use Rattle.std.proofs.lemmas.List.{length-set, get_or-set_same, get_or-set_other, take_more_set, drop-append-le, length-take-le}
 use Rattle.world_model.specs.Sizes.{Sizes, item_count}
 use Rattle.world_model.specs.NameLists.{same_name, has}
-use Rattle.world_model.proofs.ListFacts.{Among, among_append, and_true, or_true, or_right, among_left, among_right, test_among, among_test}
+use Rattle.world_model.proofs.ListFacts.{Among, among_append, and_true, or_right, among_left, among_right, test_among, among_test}
 use Rattle.world_model.proofs.NameFacts.{same_name_true, same_name_refl, has_among, among_has}
 use Rattle.world_model.proofs.Units.{AreApart}
 use Rattle.heap_plain.specs.Types.{Name, Kind}
@@ -90,7 +90,8 @@ module _ {z : Sizes} {o : Objects} {kinds : ℕ → List Kind} {units : List (Li
   kept_there u kept n e = among_test (has (n ∷ kept)) u n (has_among u n e) (let t = same_name_refl n in rw t refl)
 
   -- a white unit is marked
-  pub mark_one : {marked : List Bool} {listed grey : List ℕ} {kept fresh scanned : List Name} (head : ℕ) (u : List Name) (n : Name) → Stands head u → has u n ≡ true → get_or marked head false ≡ false → head < length marked → (list_any (has scanned) u ≡ true → list_any (has kept) u ≡ true)
+  pub mark_one : {marked : List Bool} {listed grey : List ℕ} {kept fresh scanned : List Name} (head : ℕ) (u : List Name) (n : Name) → Stands head u
+      → has u n ≡ true → get_or marked head false ≡ false → head < length marked → (list_any (has scanned) u ≡ true → list_any (has kept) u ≡ true)
       → MarksShow o units marked listed grey kept fresh scanned
       → MarksShow o units (set marked head true) (listed ++ head ∷ []) (grey ++ head ∷ []) (n ∷ kept) fresh scanned
   mark_one {marked} {listed} {grey} {kept} {fresh} {scanned} head u n t e white inside sk k = record {
@@ -144,7 +145,8 @@ module _ {z : Sizes} {o : Objects} {kinds : ℕ → List Kind} {units : List (Li
 
 -- a white head has room on it
 pub work_room : {z : Sizes} {o : Objects} {units : List (List Name)} {marked : List Bool} {work : List ℕ} {scanned pushed : ℕ} {kept fresh black : List Name} (head : ℕ)
-    → WorkShows z marked work scanned pushed → MarksShow o units marked (pushed_of work pushed) (grey_of work scanned pushed) kept fresh black → head < item_count z → get_or marked head false ≡ false → pushed < item_count z
+    → WorkShows z marked work scanned pushed → MarksShow o units marked (pushed_of work pushed) (grey_of work scanned pushed) kept fresh black
+    → head < item_count z → get_or marked head false ≡ false → pushed < item_count z
 work_room {z} {marked} {work} {pushed} head ws k inside white =
     let t = few_below (item_count z) (head ∷ pushed_of work pushed) ((λ a. let black_bit = k.listed_marked head a in absurd (cc)), k.distinct) small in
     let len : length (pushed_of work pushed) ≡ pushed = length-take-le pushed work (omega (arith, ws.few, ws.work_len)) in
@@ -154,14 +156,17 @@ work_room {z} {marked} {work} {pushed} head ws k inside white =
     small i (inl e) = omega arith
     small i (inr a) = let b = bit_below marked i (k.listed_marked i a) in omega (arith, ws.marked_len)
 
-pub work_push : {z : Sizes} {marked : List Bool} {work : List ℕ} {scanned pushed : ℕ} (head : ℕ) → WorkShows z marked work scanned pushed → head < item_count z → pushed < item_count z → WorkShows z (set marked head true) (set work pushed head) scanned (pushed + 1)
+pub work_push : {z : Sizes} {marked : List Bool} {work : List ℕ} {scanned pushed : ℕ} (head : ℕ) → WorkShows z marked work scanned pushed
+    → head < item_count z → pushed < item_count z → WorkShows z (set marked head true) (set work pushed head) scanned (pushed + 1)
 work_push {z} {marked} {work} {scanned} {pushed} head ws inside room = record {
   marked_len = length-set marked head true ∙ ws.marked_len;
   work_len = length-set work pushed head ∙ ws.work_len;
   order = omega (arith, ws.order);
   few = omega arith;
   entries = λ k h. dite (ℕ_discrete k pushed)
-      (λ (e : k ≡ pushed). let t : get_or (set work pushed head) k 0 ≡ head = ap (λ (j : ℕ). get_or (set work pushed head) j 0) e ∙ get_or-set_same work pushed head 0 (omega (arith, ws.work_len)) in omega arith)
+      (λ (e : k ≡ pushed). let t : get_or (set work pushed head) k 0 ≡ head =
+      ap (λ (j : ℕ). get_or (set work pushed head) j 0) e ∙ get_or-set_same work pushed head 0 (omega (arith, ws.work_len)) in
+      omega arith)
       (λ (ne : k ≢ pushed). let t = get_or-set_other work pushed k head 0 ne in omega (arith, ws.entries k (omega arith)));
 }
 

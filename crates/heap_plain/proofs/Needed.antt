@@ -1,5 +1,5 @@
 -- What a slice keeps its scans need.
-use Rattle.std.proofs.Common.{inl, inr, List, [], ◌∷◌, ◌++◌, map, ◌⊎◌}
+use Rattle.std.proofs.Common.{inl, inr, List, [], ◌∷◌, ◌++◌, map}
 use Rattle.world_model.specs.World.{World, unit_of}
 use Rattle.world_model.specs.Reach.{graph, Refers}
 use Rattle.world_model.specs.Calls.{IsScannedFor, KeepsForScans}

@@ -62,7 +62,8 @@ count_row lane first k kinds = go (lane == k) refl
     go false e = count_row_other lane first k kinds e
 
 -- the references whose names are in a row
-pub names_of_row : (lane first : ℕ) (kinds : List Kind) (out : List Ref) → length out ≡ length kinds → ((k : ℕ) (d : Ref) → k < length out → (get_or out k d).name ≡ record { lane = lane; count = first + k })
+pub names_of_row : (lane first : ℕ) (kinds : List Kind) (out : List Ref) → length out ≡ length kinds
+    → ((k : ℕ) (d : Ref) → k < length out → (get_or out k d).name ≡ record { lane = lane; count = first + k })
     → map (λ r. r.name) out ≡ names_from lane first kinds
 names_of_row lane first [] [] len each = refl
 names_of_row lane first [] (r ∷ out) len each = absurd (omega arith)
@@ -105,5 +106,7 @@ given_members f u (x ∷ names) each n h =
 
 pub members_given : (f : Name → List Name) (u names : List Name) → ((n : Name) → Among names n → f n ≡ u) → (m : Name) → Among names m → (n : Name) → has u n ≡ true → has (flat_map f names) n ≡ true
 members_given f u [] each m h n e = absurd h
-members_given f u (x ∷ names) each m (inl same) n e = list_any-append (same_name n) (f x) (flat_map f names) ∙ ap (λ b. b || has (flat_map f names) n) (subst (λ (v : List Name). has v n ≡ true) (sym (each x (inl refl))) e)
+members_given f u (x ∷ names) each m (inl same) n e =
+    list_any-append (same_name n) (f x) (flat_map f names)
+    ∙ ap (λ b. b || has (flat_map f names) n) (subst (λ (v : List Name). has v n ≡ true) (sym (each x (inl refl))) e)
 members_given f u (x ∷ names) each m (inr h) n e = list_any-append (same_name n) (f x) (flat_map f names) ∙ or_right (has (f x) n) _ (members_given f u names (λ k a. each k (inr a)) m h n e)

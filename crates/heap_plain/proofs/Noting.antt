@@ -16,13 +16,16 @@ use Rattle.heap_plain.specs.Notes.{names_at, all_set, KeepsOne, CanKeep, Keeps}
 
 pub names_at-append : (names : List (Option Name)) (xs ys : List ℕ) → names_at names (xs ++ ys) ≡ names_at names xs ++ names_at names ys
 names_at-append names [] ys = refl
-names_at-append names (x ∷ xs) ys = ap (λ (zs : List Name). option_to_list (name_at names x) ++ zs) (names_at-append names xs ys) ∙ sym (append_assoc (option_to_list (name_at names x)) (names_at names xs) (names_at names ys))
+names_at-append names (x ∷ xs) ys =
+    ap (λ (zs : List Name). option_to_list (name_at names x) ++ zs) (names_at-append names xs ys)
+    ∙ sym (append_assoc (option_to_list (name_at names x)) (names_at names xs) (names_at names ys))
 
 pub by-append : (p : Pass) (xs ys : List Act) → by p (xs ++ ys) ≡ by p xs ++ by p ys
 by-append p xs ys = map-append (λ (a : Act). record { pass = p; act = a }) xs ys
 
 -- notes of more names
-pub notes_more : (p : Pass) (note : Name → Act) (names : List (Option Name)) (xs : List ℕ) (x : ℕ) → by p (map note (names_at names (xs ++ x ∷ []))) ≡ by p (map note (names_at names xs)) ++ by p (map note (names_at names (x ∷ [])))
+pub notes_more : (p : Pass) (note : Name → Act) (names : List (Option Name)) (xs : List ℕ) (x : ℕ)
+    → by p (map note (names_at names (xs ++ x ∷ []))) ≡ by p (map note (names_at names xs)) ++ by p (map note (names_at names (x ∷ [])))
 notes_more p note names xs x =
     ap (λ (ns : List Name). by p (map note ns)) (names_at-append names xs (x ∷ []))
     ∙ ap (λ (acts : List Act). by p acts) (map-append note (names_at names xs) (names_at names (x ∷ [])))
@@ -45,7 +48,8 @@ can_more : (firsts : List ℕ) (roots bits : List Bool) (count : ℕ) (xs : List
 can_more firsts roots bits count [] h = tt
 can_more firsts roots bits count (x ∷ xs) h = ((h.0.0, omega (arith, h.0.1), h.0.2, h.0.3), h.1, can_more firsts roots (set bits x true) count xs h.2)
 
-can_snoc : (firsts : List ℕ) (roots bits : List Bool) (count : ℕ) (xs : List ℕ) (x : ℕ) → CanKeep firsts roots count bits xs → (i : ℕ) × (i < count) × (get_or roots i false ≡ true) × (first_at firsts i ≡ x) → get_or (all_set bits xs) x false ≡ false
+can_snoc : (firsts : List ℕ) (roots bits : List Bool) (count : ℕ) (xs : List ℕ) (x : ℕ) → CanKeep firsts roots count bits xs
+    → (i : ℕ) × (i < count) × (get_or roots i false ≡ true) × (first_at firsts i ≡ x) → get_or (all_set bits xs) x false ≡ false
     → CanKeep firsts roots count bits (xs ++ x ∷ [])
 can_snoc firsts roots bits count [] x h r white = (r, white, tt)
 can_snoc firsts roots bits count (y ∷ xs) x h r white = (h.0, h.1, can_snoc firsts roots (set bits y true) count xs x h.2 r white)
@@ -55,7 +59,8 @@ can_snoc firsts roots bits count (y ∷ xs) x h r white = (h.0, h.1, can_snoc fi
 pub keeps_none : (names : List (Option Name)) (firsts : List ℕ) (roots marked : List Bool) (work : List ℕ) (diary : List Entry) → Keeps names firsts roots 0 marked marked work work 0 diary diary
 keeps_none names firsts roots marked work diary = record { bits = refl; entries = sym (append-nil diary); can = tt; each = λ i h. absurd (omega arith); few = omega arith; room = refl }
 
-pub keeps_len : {names : List (Option Name)} {firsts : List ℕ} {roots marked now : List Bool} {start work : List ℕ} {i pushed : ℕ} {old diary : List Entry} → Keeps names firsts roots i marked now start work pushed old diary → length now ≡ length marked
+pub keeps_len : {names : List (Option Name)} {firsts : List ℕ} {roots marked now : List Bool} {start work : List ℕ} {i pushed : ℕ}
+    {old diary : List Entry} → Keeps names firsts roots i marked now start work pushed old diary → length now ≡ length marked
 keeps_len {marked} {work} {pushed} k = ap (λ (xs : List Bool). length xs) k.bits ∙ length-all_set marked (take pushed work)
 
 pub keeps_more : (names : List (Option Name)) (firsts : List ℕ) (roots marked now marked' : List Bool) (start work work' : List ℕ) (i pushed pushed' head : ℕ) (on : Bool) (old diary new : List Entry)
@@ -112,5 +117,7 @@ keeps_more names firsts roots marked now marked' start work work' i pushed pushe
 
         each : (j : ℕ) → j < i + 1 → get_or roots j false ≡ true → get_or now (first_at firsts j) false ≡ true
         each j h r = dite (ℕ_discrete j i)
-            (λ (eq : j ≡ i). ap (λ (x : ℕ). get_or now (first_at firsts x) false) eq ∙ ap (λ (x : ℕ). get_or now x false) (sym head_is) ∙ already on (get_or now head false) e (on_is ∙ ap (λ (x : ℕ). get_or roots x false) (sym eq) ∙ r))
+            (λ (eq : j ≡ i).
+            ap (λ (x : ℕ). get_or now (first_at firsts x) false) eq ∙ ap (λ (x : ℕ). get_or now x false) (sym head_is)
+            ∙ already on (get_or now head false) e (on_is ∙ ap (λ (x : ℕ). get_or roots x false) (sym eq) ∙ r))
             (λ (ne : j ≢ i). k.each j (omega arith) r)

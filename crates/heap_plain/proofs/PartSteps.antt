@@ -1,5 +1,5 @@
 -- Taking a unit apart: its last member leaves it, again and again.
-use Rattle.std.proofs.Common.{◌≡◌, ◌≢◌, ℕ, ◌<◌, suc, refl, sym, subst, ap, ◌∙◌, inl, inr, arith, Bool, true, false, ◌==◌, List, [], ◌∷◌, ◌++◌, length, length-append, get_or, count_by, ◌⊎◌, Option, Some}
+use Rattle.std.proofs.Common.{◌≡◌, ◌≢◌, ℕ, ◌<◌, suc, refl, sym, subst, ap, ◌∙◌, inl, inr, arith, Bool, true, false, List, [], ◌∷◌, ◌++◌, length, length-append, get_or, ◌⊎◌, Option, Some}
 use Rattle.std.specs.List.{flat_map}
 use Rattle.std.proofs.Math.ListN.{set}
 use Rattle.std.proofs.Math.Logic.{dite}
@@ -7,20 +7,17 @@ use Rattle.std.proofs.Math.Decide.{ℕ_discrete}
 use Rattle.std.proofs.lemmas.Bool.{both_ways}
 use Rattle.std.proofs.lemmas.List.{length-set, get_or-set_same, get_or-set_other}
 use Rattle.world_model.specs.Sizes.{Sizes, item_count}
-use Rattle.world_model.specs.NameLists.{same_name, has, members, all_different, ends_with, but_last, parted}
+use Rattle.world_model.specs.NameLists.{same_name, has, all_different, ends_with, but_last, parted}
 use Rattle.world_model.specs.World.{Removal}
 use Rattle.world_model.proofs.ListFacts.{Among, or_true}
 use Rattle.world_model.proofs.NameFacts.{same_name_refl, member_of_one}
-use Rattle.world_model.proofs.Loosening.{ends_splits, ends_has, ends_own, different_left, members_parted, among_parted, which_part, parted_among, first_part, last_part, whole_part}
+use Rattle.world_model.proofs.Loosening.{ends_splits, ends_has, ends_own, different_left, among_parted, which_part, parted_among, first_part, last_part, whole_part}
 use Rattle.world_model.proofs.Units.{AreApart}
 use Rattle.heap_plain.specs.Types.{Name, Kind}
-use Rattle.heap_plain.specs.declared.life.Life.{Life}
 use Rattle.heap_plain.specs.declared.life.Life.TheVariants.{Live}
 use Rattle.heap_plain.specs.Parts.{Objects, name_at, life_at, first_at, next_at, is_gone}
 use Rattle.heap_plain.specs.Listing.{chained}
-use Rattle.heap_plain.specs.Lists.{Distinct}
 use Rattle.heap_plain.specs.Units.{NamesShow, UnitsShow, StandsAt, LivesAt, AreLinked}
-use Rattle.heap_plain.specs.Stocking.{FreeShows}
 use Rattle.heap_plain.specs.Destroying.{GoneShow, LiesAt}
 use Rattle.heap_plain.proofs.Listings.{chained_next}
 use Rattle.heap_plain.proofs.Standing.{one_head, one_unit, name_below}
@@ -154,7 +151,9 @@ module _ {z : Sizes} {o : Objects} {kinds : ℕ → List Kind} {units : List (Li
       linked = (named_last, tt);
       inside = λ m k. let same : m ≡ n = member_of_one m n k in (i, subst (λ (x : Name). LivesAt o.names o.lives i x) (sym same) here, first_own);
       whole = λ j m a f. dite (ℕ_discrete j i)
-          (λ (e : j ≡ i). let is : ◌≡◌ {A = Option Name} (Some m) (Some n) = sym a.name ∙ ap (name_at o.names) e ∙ named_last in let same : n ≡ m = cc in subst (λ (x : Name). has (n ∷ []) x ≡ true) same (let t = same_name_refl n in rw t refl))
+          (λ (e : j ≡ i). let is : ◌≡◌ {A = Option Name} (Some m) (Some n) = sym a.name ∙ ap (name_at o.names) e ∙ named_last in
+          let same : n ≡ m = cc in
+          subst (λ (x : Name). has (n ∷ []) x ≡ true) same (let t = same_name_refl n in rw t refl))
           (λ (ne : j ≢ i). let r = us.each j a.life in absurd (apart_head (sym (subst (λ (x : ℕ). first_at o.firsts x ≡ x) (sym (first_other j ne) ∙ f) r.1.own) ∙ first_here)));
     }
 
@@ -190,10 +189,15 @@ module _ {z : Sizes} {o : Objects} {kinds : ℕ → List Kind} {units : List (Li
       sizes_len = length-set (set o.sizes i 1) head left ∙ length-set o.sizes i 1 ∙ us.sizes_len;
       links_len = us.links_len;
       lives_len = us.lives_len;
-      in_range = λ j. dite (ℕ_discrete j i) (λ (e : j ≡ i). let f = ap (first_at firsts') e ∙ first_own in omega (arith, below)) (λ (ne : j ≢ i). let f = first_other j ne in omega (arith, us.in_range j));
+      in_range =
+          λ j.
+          dite (ℕ_discrete j i) (λ (e : j ≡ i). let f = ap (first_at firsts') e ∙ first_own in omega (arith, below))
+          (λ (ne : j ≢ i). let f = first_other j ne in omega (arith, us.in_range j));
       small = λ j. dite (ℕ_discrete j head)
           (λ (e : j ≡ head). let f = ap (λ (x : ℕ). get_or sizes' x 0) e ∙ size_head in omega (arith, us.small head, t.size, size))
-          (λ (other : j ≢ head). dite (ℕ_discrete j i) (λ (e : j ≡ i). let f = ap (λ (x : ℕ). get_or sizes' x 0) e ∙ size_own in omega arith) (λ (ne : j ≢ i). let f = size_other j ne other in omega (arith, us.small j)));
+          (λ (other : j ≢ head).
+          dite (ℕ_discrete j i) (λ (e : j ≡ i). let f = ap (λ (x : ℕ). get_or sizes' x 0) e ∙ size_own in omega arith)
+          (λ (ne : j ≢ i). let f = size_other j ne other in omega (arith, us.small j)));
       named = us.named;
       each = λ j live. dite (ℕ_discrete j i)
           (λ (e : j ≡ i). (n ∷ [], subst (λ (x : ℕ). StandsAt o' (flat_map (parted n) units) x (n ∷ [])) (sym (ap (first_at firsts') e ∙ first_own)) stands_last))

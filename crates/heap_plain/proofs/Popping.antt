@@ -1,5 +1,5 @@
 -- Indexes of lanes, and those that a lane's stack gives.
-use Rattle.std.proofs.Common.{◌≡◌, ◌≢◌, ℕ, ◌+◌, ◌-◌, ◌*◌, ◌<◌, ◌≤◌, ◌==◌, ◌⊎◌, inl, inr, zero, suc, suc-mul, refl, sym, ap, ◌∙◌, subst, arith, List, get_or, count_by, Option, cond, Bool, true, false}
+use Rattle.std.proofs.Common.{◌≡◌, ◌≢◌, ℕ, ◌+◌, ◌-◌, ◌*◌, ◌<◌, ◌≤◌, ◌==◌, ◌⊎◌, inl, inr, zero, suc, suc-mul, refl, sym, ap, ◌∙◌, subst, arith, List, get_or, Option, cond, Bool, true, false}
 use Rattle.std.proofs.Math.ListN.{set}
 use Rattle.std.proofs.Math.Logic.{dite}
 use Rattle.std.proofs.Math.Decide.{ℕ_discrete, dec_le}
@@ -173,7 +173,8 @@ spare_read {spare} f l now lane read = get_or_read spare l now (omega (arith, f.
 
 -- a lane's stack gives so many indexes
 pub pops : {z : Sizes} {names : List (Option Name)} {lives : List Life} {free spare : List ℕ} {used : ℕ → ℕ} → FreeShows z names lives free spare used
-    → (l count now quota size : ℕ) (stack : List ℕ) → l < z.lanes → now ≡ get_or spare l now → quota ≡ z.quota → size ≡ item_count z → stack ≡ free → count ≤ now → CanPop stack (l * quota + now) count size
+    → (l count now quota size : ℕ) (stack : List ℕ) → l < z.lanes → now ≡ get_or spare l now → quota ≡ z.quota → size ≡ item_count z → stack ≡ free
+    → count ≤ now → CanPop stack (l * quota + now) count size
 pops {z} {free} {spare} f l count now quota size stack lane read quota_is size_is stack_is enough =
     let is = spare_read f l now lane read in
     rw (is, quota_is, size_is, stack_is) (can_pop f l count lane (omega arith))

@@ -42,11 +42,17 @@ use Rattle.heap_plain.proofs.Restaging.{SameLives, lives_same, lives_set, gone_b
 
 -- ---- the vectors after a step
 
-purged_shows : {z : Sizes} {p : Parts} {w : World} {kept fresh black : List Name} {was asked : Option Name} {ls : List Life} {ps ws order : List ℕ} {listed begun from kept_now : ℕ} {done : Option ℕ} {rs : List Removal}
+purged_shows : {z : Sizes} {p : Parts} {w : World} {kept fresh black : List Name} {was asked : Option Name} {ls : List Life} {ps ws order : List ℕ}
+    {listed begun from kept_now : ℕ} {done : Option ℕ} {rs : List Removal}
     → ShowsWorld z p w kept fresh black was → p.phase ≡ Idle → SameLives p.lives ls → RemovedShow z p.names ls ps p.left p.swept p.phase rs w.found w.swept
     → GoneShow z (record (p.objects) { lives = ls }) ws rs w.last_removed → ((lane : ℕ) → count_by (λ r. r.name.lane == lane) rs ≡ count_by (λ r. r.name.lane == lane) w.removals)
     → OrderShows z order listed begun from kept_now → QueueShows p.names order listed begun from kept_now done rs w.last_removed w.found asked
-    → ShowsWorld z (record p { objects = record (p.objects) { lives = ls }; ends = record (p.ends) { order = order; listed = listed; begun = begun; from = from; kept = kept_now; polls = ps; waiting = ws; done = done } }) (record w { removals = rs }) kept fresh black asked
+    → ShowsWorld z
+    (record p {
+      objects = record (p.objects) { lives = ls };
+      ends =
+          record (p.ends) { order = order; listed = listed; begun = begun; from = from; kept = kept_now; polls = ps; waiting = ws; done = done };
+    }) (record w { removals = rs }) kept fresh black asked
 purged_shows {w = w} k idle same removed gone counts order queue = record {
   gate = k.gate;
   objects = record { names = k.names; units = units_lives _ same k.units };
@@ -111,7 +117,8 @@ find_named : (rs : List Removal) (r : Removal) → Distinct (map (λ x. x.name) 
 find_named [] r d a = absurd a
 find_named (x ∷ rs) r d a = go (same_name r.name x.name) refl a (find_named rs r d.1)
   where
-    go : (b : Bool) → same_name r.name x.name ≡ b → (x ≡ r) ⊎ Among rs r → (Among rs r → find (λ y. same_name r.name y.name) rs ≡ Some r) → cond b (Some x) (find (λ y. same_name r.name y.name) rs) ≡ Some r
+    go : (b : Bool) → same_name r.name x.name ≡ b → (x ≡ r) ⊎ Among rs r → (Among rs r → find (λ y. same_name r.name y.name) rs ≡ Some r)
+        → cond b (Some x) (find (λ y. same_name r.name y.name) rs) ≡ Some r
     go true e (inl same) rest = ap (λ (y : Removal). Some y) same
     go true e (inr b) rest = absurd (d.0 (subst (λ (n : Name). Among (map (λ y. y.name) rs) n) (same_name_true r.name x.name e) (name_among rs r b)))
     go false e (inl same) rest = absurd (let yes : same_name r.name x.name ≡ true = ap (λ (y : Removal). same_name r.name y.name) same ∙ same_name_refl r.name in cc)
@@ -128,16 +135,27 @@ pub record Turned (z : Sizes) (names : List (Option Name)) (order : List ℕ) (r
   pub named : AreNamed names (ring_of order end from kept) ring
   pub empty : from ≡ end → kept ≡ 0
 
-turns : {z : Sizes} {names : List (Option Name)} {order : List ℕ} {ring : List Name} (listed begun from kept : ℕ) → OrderShows z order listed begun from kept → listed ≤ begun → AreNamed names (ring_of order begun from kept) ring
+turns : {z : Sizes} {names : List (Option Name)} {order : List ℕ} {ring : List Name} (listed begun from kept : ℕ)
+    → OrderShows z order listed begun from kept → listed ≤ begun → AreNamed names (ring_of order begun from kept) ring
     → Turned z names order ring (turned begun from kept).0 (turned begun from kept).1 (turned begun from kept).2
 turns {z} {names} {order} {ring} listed begun from kept o all h = go (from == begun) refl
   where
-    go : (b : Bool) → (from == begun) ≡ b → Turned z names order ring (cond {A = ℕ × ℕ × ℕ} b (kept, 0, 0) (begun, from, kept)).0 (cond {A = ℕ × ℕ × ℕ} b (kept, 0, 0) (begun, from, kept)).1 (cond {A = ℕ × ℕ × ℕ} b (kept, 0, 0) (begun, from, kept)).2
+    go : (b : Bool) → (from == begun) ≡ b
+        → Turned z names order ring (cond {A = ℕ × ℕ × ℕ} b (kept, 0, 0) (begun, from, kept)).0
+        (cond {A = ℕ × ℕ × ℕ} b (kept, 0, 0) (begun, from, kept)).1 (cond {A = ℕ × ℕ × ℕ} b (kept, 0, 0) (begun, from, kept)).2
     go true e =
         let same = eqb-true from begun e in
         let past : drop from (take begun order) ≡ [] = drop_all from (take begun order) (omega (arith, length-take-le begun order (omega (arith, o.len, o.listed_few, o.begun_few)))) in
         record {
-          places = record { len = o.len; listed_few = omega (arith, o.kept_few, o.from_few, o.begun_few, o.listed_few); begun_few = omega arith; from_few = omega arith; kept_few = omega arith; early = λ e. refl };
+          places =
+              record {
+                len = o.len;
+                listed_few = omega (arith, o.kept_few, o.from_few, o.begun_few, o.listed_few);
+                begun_few = omega arith;
+                from_few = omega arith;
+                kept_few = omega arith;
+                early = λ e. refl;
+              };
           named = subst (λ (at : List ℕ). AreNamed names at ring) (ap (λ (at : List ℕ). at ++ take kept order) past ∙ sym (append-nil (take kept order))) h;
           empty = λ e. refl;
         }
@@ -178,7 +196,8 @@ module _ {z : Sizes} {p : Parts} {h : List Entry} (amid : IsAmid z p h) (idle : 
   removed_idle : RemovedShow z p.names p.lives p.polls p.left p.swept Idle w.removals w.found w.swept
   removed_idle = subst (λ (phase : Phase). RemovedShow z p.names p.lives p.polls p.left p.swept phase w.removals w.found w.swept) idle k.removed
 
-  removed_back : {ls : List Life} {ps : List ℕ} {rs : List Removal} → RemovedShow z p.names ls ps p.left p.swept Idle rs w.found w.swept → RemovedShow z p.names ls ps p.left p.swept p.phase rs w.found w.swept
+  removed_back : {ls : List Life} {ps : List ℕ} {rs : List Removal} → RemovedShow z p.names ls ps p.left p.swept Idle rs w.found w.swept
+      → RemovedShow z p.names ls ps p.left p.swept p.phase rs w.found w.swept
   removed_back {ls} {ps} {rs} r = subst (λ (phase : Phase). RemovedShow z p.names ls ps p.left p.swept phase rs w.found w.swept) (sym idle) r
 
   -- what holds of the removed objects of every history
@@ -271,7 +290,8 @@ module _ {z : Sizes} {p : Parts} {h : List Entry} (amid : IsAmid z p h) (idle : 
     pub begin_may : MayBy z s Collector (act.Begun n)
     begin_may = record { finishes = amid.agreed; may = record { gathered = gathered; next = (queue_begin queue').0 } }
 
-    pub begin_shows : ShowsWorld z (record p { objects = record (p.objects) { lives = ls }; ends = record (p.ends) { begun = p.begun + 1 } }) (at_stage w n AtBegun) s.marks.kept s.marks.fresh s.marks.scanned s.collector.asked
+    pub begin_shows : ShowsWorld z (record p { objects = record (p.objects) { lives = ls }; ends = record (p.ends) { begun = p.begun + 1 } })
+        (at_stage w n AtBegun) s.marks.kept s.marks.fresh s.marks.scanned s.collector.asked
     begin_shows = purged_shows k idle same (removed_back removed') gone' (λ lane. count_stays n (λ r. record r { stage = AtBegun }) (λ r. refl) lane w.removals) order' record {
       todo = first.1;
       ring = q.ring ++ n ∷ [];
@@ -406,12 +426,16 @@ module _ {z : Sizes} {p : Parts} {h : List Entry} (amid : IsAmid z p h) (idle : 
         (λ t. rest t ++ take_more_set p.order kept y kept_below t) ∙ sym (append_assoc (drop (from + 1) (take end p.order)) (take kept p.order) (y ∷ []))
 
     none_waits : (order : List ℕ) → length order ≡ item_count z → AreNamed p.names (todo_of order end end) []
-    none_waits order len = subst (λ (at : List ℕ). AreNamed p.names at []) (sym (drop_all end (take end order) (omega (arith, length-take-le end order (omega (arith, len, turn.places.listed_few)))))) tt
+    none_waits order len =
+        subst (λ (at : List ℕ). AreNamed p.names at [])
+        (sym (drop_all end (take end order) (omega (arith, length-take-le end order (omega (arith, len, turn.places.listed_few)))))) tt
 
     pub refused_legal : LegalFrom z s (by Collector (asked_acts m poll false))
     refused_legal = (asked_may false, tt)
 
-    pub refused_shows : ShowsWorld z (record p { ends = record (p.ends) { order = order_refused; listed = end; begun = end; from = from + 1; kept = kept + 1; polls = ps } }) (polled w m poll) s.marks.kept s.marks.fresh s.marks.scanned (Some m)
+    pub refused_shows : ShowsWorld z
+        (record p { ends = record (p.ends) { order = order_refused; listed = end; begun = end; from = from + 1; kept = kept + 1; polls = ps } })
+        (polled w m poll) s.marks.kept s.marks.fresh s.marks.scanned (Some m)
     refused_shows = purged_shows k idle (lives_same p.lives) (removed_back removed_polled)
         (gone_changed (lives_same p.lives) k.gone refl (there_changed m (λ r. record r { polls = poll }) (λ r. refl) w.removals)
         (λ head u t. t.waits ∙ count_alike _ _ u (λ n a. ap not (sym (is_at-polled w0 m poll AtFinished n)))))
@@ -531,7 +555,13 @@ module _ {z : Sizes} {p : Parts} {h : List Entry} (amid : IsAmid z p h) (idle : 
     pub agreed_legal : LegalFrom z s (by Collector (asked_acts m poll true))
     agreed_legal = (asked_may true, (record { finishes = refl; may = gathered }, tt))
 
-    pub agreed_shows : ShowsWorld z (record p { objects = record (p.objects) { lives = agreed_ls }; ends = record (p.ends) { listed = end; begun = end; from = from + 1; kept = kept; polls = ps; waiting = ws; done = finished_unit head (waits - 1) } })
+    pub agreed_shows : ShowsWorld z
+        (record p {
+          objects = record (p.objects) { lives = agreed_ls };
+          ends =
+              record (p.ends)
+              { listed = end; begun = end; from = from + 1; kept = kept; polls = ps; waiting = ws; done = finished_unit head (waits - 1) };
+        })
         (at_stage (polled w m poll) m AtFinished) s.marks.kept s.marks.fresh s.marks.scanned (Some m)
     agreed_shows = purged_shows k idle lives_agreed (removed_back removed_agreed) gone_agreed
         (λ lane. count_stays m (λ r. record r { stage = AtFinished }) (λ r. refl) lane polled_rs ∙ count_stays m (λ r. record r { polls = poll }) (λ r. refl) lane w.removals)

@@ -36,7 +36,8 @@ use Rattle.heap_plain.proofs.Releasing as releasing
 -- ---- hooks
 
 -- calls are added to what is told
-tells_more : (w : World) (old new : List Entry) (before mid now : Option (List HookCall)) → AreCalledFor w old before mid → Tells mid now (filter_map (λ e. call_of w e.act) new) → AreCalledFor w (old ++ new) before now
+tells_more : (w : World) (old new : List Entry) (before mid now : Option (List HookCall)) → AreCalledFor w old before mid
+    → Tells mid now (filter_map (λ e. call_of w e.act) new) → AreCalledFor w (old ++ new) before now
 tells_more w old new before mid None h t = tt
 tells_more w old new before None (Some now) h t = absurd t
 tells_more w old new None (Some mid) (Some now) h t = absurd h
@@ -62,17 +63,23 @@ list_all_more q (x ∷ xs) ys a b = go (q x) a (list_all_more q xs ys)
     go true h rest = rest h b
     go false h rest = absurd cc
 
-pub purges_more : {z : Sizes} {old : Shown} {before mid now : Option (List HookCall)} {was test test' : ReadyTest} {steps : ℕ} {p p' : Parts} {history : List Entry} (acts : List Act) (calls : List HookCall)
+pub purges_more : {z : Sizes} {old : Shown} {before mid now : Option (List HookCall)} {was test test' : ReadyTest} {steps : ℕ} {p p' : Parts}
+    {history : List Entry} (acts : List Act) (calls : List HookCall)
     → IsPurging z old before mid was test steps p history → LegalFrom z (state_of history) (by Collector acts) → list_all is_purge_part acts ≡ true → count_by is_purge_step acts ≡ 1
     → Shows z p' (run (state_of history) (by Collector acts)) → (run (state_of history) (by Collector acts)).collector.steps ≡ (state_of history).collector.steps + 1
-    → (run (state_of history) (by Collector acts)).collector.agreed ≡ None → (run (state_of history) (by Collector acts)).world.kinds ≡ (after history).kinds → (run (state_of history) (by Collector acts)).frames ≡ (state_of history).frames → p'.phase ≢ Gathering
+    → (run (state_of history) (by Collector acts)).collector.agreed ≡ None
+    → (run (state_of history) (by Collector acts)).world.kinds ≡ (after history).kinds
+    → (run (state_of history) (by Collector acts)).frames ≡ (state_of history).frames → p'.phase ≢ Gathering
     → ((lane : ℕ) (r : Ref) → Holds (record { history = history; names = p.names }) lane r → Holds (record { history = history; names = p'.names }) lane r)
-    → calls ≡ filter_map (λ e. call_of (after old.history) e.act) (by Collector acts) → Tells mid now calls → AllByRecursion (λ e. Meets (after old.history) was e.act) (by Collector acts) → SameTest test test'
+    → calls ≡ filter_map (λ e. call_of (after old.history) e.act) (by Collector acts) → Tells mid now calls
+    → AllByRecursion (λ e. Meets (after old.history) was e.act) (by Collector acts) → SameTest test test'
     → IsPurging z old before now was test' (steps + 1) p' (history ++ by Collector acts)
 purges_more {z} {old} {before} {mid} {now} {was} {test} {test'} {steps} {p} {p'} {history} acts calls i legal only one shows ran agreed kinds frames gathered holds calls_are told meets same = record {
   rest = i.rest;
   parts = i.parts ++ acts;
-  grown = ap (λ (es : List Entry). es ++ by Collector acts) i.grown ∙ append_assoc old.history (by Collector i.parts) (by Collector acts) ∙ ap (λ (es : List Entry). old.history ++ es) (sym (by-append Collector i.parts acts));
+  grown =
+      ap (λ (es : List Entry). es ++ by Collector acts) i.grown ∙ append_assoc old.history (by Collector i.parts) (by Collector acts)
+      ∙ ap (λ (es : List Entry). old.history ++ es) (sym (by-append Collector i.parts acts));
   only = list_all_more is_purge_part i.parts acts i.only only;
   counted = let a = sum_by-append (λ x. cond {A = ℕ} (is_purge_step x) 1 0) i.parts acts in omega (arith, i.counted, one);
   legal = legal_join z beginning history (by Collector acts) i.legal legal;
@@ -81,10 +88,17 @@ purges_more {z} {old} {before} {mid} {now} {was} {test} {test'} {steps} {p} {p'}
   ran = ap (λ (s : State). s.collector.steps) more ∙ ran ∙ ap (λ (n : ℕ). n + 1) i.ran;
   kinds = ap (λ (s : State). s.world.kinds) more ∙ kinds ∙ i.kinds;
   gathered = gathered;
-  held = λ lane r h. let was = holds lane r (i.held lane r h) in record { given = subst (λ (f : ℕ → Frame). has (f lane).held r.name ≡ true) (sym (ap (λ (s : State). s.frames) more ∙ frames)) was.given; placed = was.placed; alone = was.alone };
+  held = λ lane r h. let was = holds lane r (i.held lane r h) in
+      record {
+        given = subst (λ (f : ℕ → Frame). has (f lane).held r.name ≡ true) (sym (ap (λ (s : State). s.frames) more ∙ frames)) was.given;
+        placed = was.placed;
+        alone = was.alone;
+      };
   called = subst (λ (es : List Entry). AreCalledFor (after old.history) es before now) (sym (by-append Collector i.parts acts))
       (tells_more (after old.history) (by Collector i.parts) (by Collector acts) before mid now i.called (subst (λ (cs : List HookCall). Tells mid now cs) calls_are told));
-  tested = subst (λ (es : List Entry). AllByRecursion (λ e. Meets (after old.history) was e.act) es) (sym (by-append Collector i.parts acts)) (all_more (λ e. Meets (after old.history) was e.act) (by Collector i.parts) (by Collector acts) i.tested meets);
+  tested =
+      subst (λ (es : List Entry). AllByRecursion (λ e. Meets (after old.history) was e.act) es) (sym (by-append Collector i.parts acts))
+      (all_more (λ e. Meets (after old.history) was e.act) (by Collector i.parts) (by Collector acts) i.tested meets);
   same = same_trans i.same same;
 }
   where
@@ -120,14 +134,20 @@ agreed_parts p y poll end from kept = record p {
 }
 
 abbrev pub released_parts : Parts → Stocks → ℕ → Parts
-released_parts p t size = record p { objects = record (p.objects) { names = t.names; lives = t.lives }; stock = record (p.stock) { free = t.free; spare = t.spare }; ends = record (p.ends) { left = p.left - size; done = None } }
+released_parts p t size =
+    record p {
+      objects = record (p.objects) { names = t.names; lives = t.lives };
+      stock = record (p.stock) { free = t.free; spare = t.spare };
+      ends = record (p.ends) { left = p.left - size; done = None };
+    }
 
 left_gathered : (phase : Phase) (removals : List Removal) (found : List Name) (left : ℕ) → phase ≢ Gathering → left ≡ count_left phase removals found → left ≡ length removals
 left_gathered Idle removals found left ne e = e
 left_gathered Marking removals found left ne e = e
 left_gathered Gathering removals found left ne e = absurd (ne refl)
 
-pub purge_idle : {z : Sizes} {old : Shown} {before now : Option (List HookCall)} {was test : ReadyTest} {steps : ℕ} {p : Parts} {history : List Entry} → IsPurging z old before now was test steps p history → 0 < p.left → p.phase ≡ Idle
+pub purge_idle : {z : Sizes} {old : Shown} {before now : Option (List HookCall)} {was test : ReadyTest} {steps : ℕ} {p : Parts} {history : List Entry}
+    → IsPurging z old before now was test steps p history → 0 < p.left → p.phase ≡ Idle
 purge_idle {z} {p = p} {history} i some = go p.phase refl
   where
     go : (phase : Phase) → p.phase ≡ phase → phase ≡ Idle
@@ -138,7 +158,8 @@ purge_idle {z} {p = p} {history} i some = go p.phase refl
         let len : length (after history).removals ≡ 0 = ap (λ (rs : List Removal). length rs) none in
         absurd (omega (arith, some, left_gathered p.phase (after history).removals (after history).found p.left i.gathered i.shows.removed.left_is))
 
-module _ {z : Sizes} {old : Shown} {before mid : Option (List HookCall)} {was test : ReadyTest} {steps : ℕ} {p : Parts} {history : List Entry} (i : IsPurging z old before mid was test steps p history) (more : 0 < p.left) where
+module _ {z : Sizes} {old : Shown} {before mid : Option (List HookCall)} {was test : ReadyTest} {steps : ℕ} {p : Parts} {history : List Entry}
+    (i : IsPurging z old before mid was test steps p history) (more : 0 < p.left) where
   abbrev s : State
   s = state_of history
 
@@ -154,7 +175,8 @@ module _ {z : Sizes} {old : Shown} {before mid : Option (List HookCall)} {was te
   -- the class that a hook is told
   class_known : (x : ℕ) (n : Name) → name_at p.names x ≡ Some n → class_at p.kinds x ≡ class_of (after old.history) n
   class_known x n e =
-      sym (ap (λ (kind : Option Kind). option_map_or (λ k. k.class) kind (record { 0 = 0 })) (k.kinds.each x n e)) ∙ ap (λ (kinds : ℕ → List Kind). option_map_or (λ k. k.class) (slice_get (kinds n.lane) (n.count - 1)) (record { 0 = 0 })) i.kinds
+      sym (ap (λ (kind : Option Kind). option_map_or (λ k. k.class) kind (record { 0 = 0 })) (k.kinds.each x n e))
+      ∙ ap (λ (kinds : ℕ → List Kind). option_map_or (λ k. k.class) (slice_get (kinds n.lane) (n.count - 1)) (record { 0 = 0 })) i.kinds
 
   name_known : (x : ℕ) (n : Name) → name_at p.names x ≡ Some n → name_of p.names x ≡ n
   name_known x n e = ap (λ (o : Option Name). unwrap_or o (record { lane = 0; count = 0 })) e
@@ -185,7 +207,8 @@ module _ {z : Sizes} {old : Shown} {before mid : Option (List HookCall)} {was te
     purge_begins {now} {test'} told same =
         let name = name_known x n.0 n.1 in
         subst (λ (m : Name). IsPurging z old before now was test' (steps + 1) (begun_parts p x) (history ++ by Collector (act.Begun m ∷ []))) (sym name)
-        (purges_more (act.Begun n.0 ∷ []) (called.Begin n.0 (class_of (after old.history) n.0) ∷ []) i (begin_may amid idle some, tt) refl refl (begin_shows amid idle some) refl refl refl refl i.gathered
+        (purges_more (act.Begun n.0 ∷ []) (called.Begin n.0 (class_of (after old.history) n.0) ∷ []) i (begin_may amid idle some, tt) refl refl
+        (begin_shows amid idle some) refl refl refl refl i.gathered
         (λ lane r h. h) refl (subst₂ (λ (m : Name) (class : ClassId). Tells mid now (called.Begin m class ∷ [])) name (class_known x n.0 n.1) told) (tt, tt) same)
 
   -- ---- an object is asked
@@ -227,18 +250,23 @@ module _ {z : Sizes} {old : Shown} {before mid : Option (List HookCall)} {was te
     pub ask_waits : 0 < get_or p.waiting (first_at p.firsts y) 0
     ask_waits = some_wait amid idle all none more
 
-    pub purge_refused : {now : Option (List HookCall)} {test' : ReadyTest} → Tells mid now (asked_calls (name_of p.names y) (class_at p.kinds y) poll false) → test (name_of p.names y) (class_at p.kinds y) poll false → SameTest test test'
+    pub purge_refused : {now : Option (List HookCall)} {test' : ReadyTest}
+        → Tells mid now (asked_calls (name_of p.names y) (class_at p.kinds y) poll false) → test (name_of p.names y) (class_at p.kinds y) poll false
+        → SameTest test test'
         → IsPurging z old before now was test' (steps + 1) (refused_parts p y poll end from kept)
         (history ++ by Collector (asked_acts (name_of p.names y) poll false))
     purge_refused {now} {test'} told meets same =
         let name = name_known y m.0 m.1 in
         subst (λ (n : Name). IsPurging z old before now was test' (steps + 1) (refused_parts p y poll end from kept)
         (history ++ by Collector (asked_acts n poll false))) (sym name)
-        (purges_more (asked_acts m.0 poll false) (asked_calls m.0 (class_of (after old.history) m.0) poll false) i (refused_legal amid idle all none more) refl refl (refused_shows amid idle all none more) refl refl refl refl i.gathered
+        (purges_more (asked_acts m.0 poll false) (asked_calls m.0 (class_of (after old.history) m.0) poll false) i
+        (refused_legal amid idle all none more) refl refl (refused_shows amid idle all none more) refl refl refl refl i.gathered
         (λ lane r h. h) refl (subst₂ (λ (n : Name) (class : ClassId). Tells mid now (asked_calls n class poll false)) name (class_known y m.0 m.1) told)
         ((i.same m.0 (class_of (after old.history) m.0) poll false).1 (subst₂ (λ (n : Name) (class : ClassId). test n class poll false) name (class_known y m.0 m.1) meets), tt) same)
 
-    pub purge_agreed : {now : Option (List HookCall)} {test' : ReadyTest} → Tells mid now (asked_calls (name_of p.names y) (class_at p.kinds y) poll true) → test (name_of p.names y) (class_at p.kinds y) poll true → SameTest test test'
+    pub purge_agreed : {now : Option (List HookCall)} {test' : ReadyTest}
+        → Tells mid now (asked_calls (name_of p.names y) (class_at p.kinds y) poll true) → test (name_of p.names y) (class_at p.kinds y) poll true
+        → SameTest test test'
         → IsPurging z old before now was test' (steps + 1)
         (agreed_parts p y poll end from kept)
         (history ++ by Collector (asked_acts (name_of p.names y) poll true))
@@ -247,7 +275,8 @@ module _ {z : Sizes} {old : Shown} {before mid : Option (List HookCall)} {was te
         subst (λ (n : Name). IsPurging z old before now was test' (steps + 1)
         (agreed_parts p y poll end from kept)
         (history ++ by Collector (asked_acts n poll true))) (sym name)
-        (purges_more (asked_acts m.0 poll true) (asked_calls m.0 (class_of (after old.history) m.0) poll true) i (agreed_legal amid idle all none more) refl refl (agreed_shows amid idle all none more) refl refl refl refl i.gathered
+        (purges_more (asked_acts m.0 poll true) (asked_calls m.0 (class_of (after old.history) m.0) poll true) i
+        (agreed_legal amid idle all none more) refl refl (agreed_shows amid idle all none more) refl refl refl refl i.gathered
         (λ lane r h. h) refl (subst₂ (λ (n : Name) (class : ClassId). Tells mid now (asked_calls n class poll true)) name (class_known y m.0 m.1) told)
         ((i.same m.0 (class_of (after old.history) m.0) poll true).1 (subst₂ (λ (n : Name) (class : ClassId). test n class poll true) name (class_known y m.0 m.1) meets), (tt, tt)) same)
 
@@ -291,7 +320,8 @@ module _ {z : Sizes} {old : Shown} {before mid : Option (List HookCall)} {was te
     purge_releases n e =
         let same : f.0 ≡ n = (let a = f.1 in let b = e in cc) in
         subst (λ (m : Name). IsPurging z old before mid was test (steps + 1) (released_parts p t size) (history ++ by Collector (act.Released m ∷ []))) same
-        (purges_more (act.Released f.0 ∷ []) [] i (releasing.release_may amid idle all head ready few_items, tt) refl refl (releasing.release_shows amid idle all head ready few_items) refl refl refl refl i.gathered
+        (purges_more (act.Released f.0 ∷ []) [] i (releasing.release_may amid idle all head ready few_items, tt) refl refl
+        (releasing.release_shows amid idle all head ready few_items) refl refl refl refl i.gathered
         holds refl (nothing_told mid) (tt, tt) (λ n class poll answer. ((λ t. t), (λ t. t))))
 
     -- by the size and the vectors that the code has
@@ -304,7 +334,8 @@ module _ {z : Sizes} {old : Shown} {before mid : Option (List HookCall)} {was te
 -- ---- the call
 
 -- before the first step
-pub purge_starts : (z : Sizes) (old : Shown) (p : Parts) (calls : Option (List HookCall)) (test : ReadyTest) → IsPlain z p old.history → p.names ≡ old.names → p.phase ≢ Gathering → IsPurging z old calls calls test test 0 p old.history
+pub purge_starts : (z : Sizes) (old : Shown) (p : Parts) (calls : Option (List HookCall)) (test : ReadyTest) → IsPlain z p old.history
+    → p.names ≡ old.names → p.phase ≢ Gathering → IsPurging z old calls calls test test 0 p old.history
 purge_starts z old p calls test was names other = record {
   rest = was.rest;
   parts = [];
@@ -388,11 +419,17 @@ module _ {z : Sizes} {old : Shown} {before now : Option (List HookCall)} {was te
       (all_more (λ e. Meets (after old.history) was e.act) (by Collector i.parts) (closing budget reply) i.tested (tt, tt)))
 
   pub purge_held : (lane : ℕ) (r : Ref) → Holds old lane r → Holds (record { history = history ++ closing budget reply; names = p.names }) lane r
-  purge_held lane r h = let was = i.held lane r h in record { given = subst (λ (s : State). has (s.frames lane).held r.name ≡ true) (sym (state_more history (closing budget reply))) was.given; placed = was.placed; alone = was.alone }
+  purge_held lane r h = let was = i.held lane r h in
+      record {
+        given = subst (λ (s : State). has (s.frames lane).held r.name ≡ true) (sym (state_more history (closing budget reply))) was.given;
+        placed = was.placed;
+        alone = was.alone;
+      }
 
 -- ---- while removed objects are being found
 
-pub waits : {z : Sizes} {p : Parts} {h : List Entry} (budget : ℕ) → IsPlain z p h → p.phase ≡ Gathering → Done z p h (h ++ closing budget purge.Gathering) Collector (act.PurgeGc budget purge.Gathering)
+pub waits : {z : Sizes} {p : Parts} {h : List Entry} (budget : ℕ) → IsPlain z p h → p.phase ≡ Gathering
+    → Done z p h (h ++ closing budget purge.Gathering) Collector (act.PurgeGc budget purge.Gathering)
 waits budget was e = does Collector (act.PurgeGc budget purge.Gathering) (act.PurgeGc budget purge.Gathering ∷ []) was (record { parts = []; are = refl; only = refl; counted = refl }, tt)
     (record { finishes = was.rest.between.agreed; may = sym was.shows.phase ∙ e }, tt) was.shows
 

@@ -16,14 +16,18 @@ named_more names ns keep [] (n ∷ of) h = absurd h
 named_more names ns keep (i ∷ at) [] h = absurd h
 named_more names ns keep (i ∷ at) (n ∷ of) h = (keep i n h.0, named_more names ns keep at of h.1)
 
-pub ready_more : (names ns : List (Option Name)) → ((i : ℕ) (n : Name) → name_at names i ≡ Some n → name_at ns i ≡ Some n) → (done : Option ℕ) (ready : Option Name) → ReadyAt names done ready → ReadyAt ns done ready
+pub ready_more : (names ns : List (Option Name)) → ((i : ℕ) (n : Name) → name_at names i ≡ Some n → name_at ns i ≡ Some n)
+    → (done : Option ℕ) (ready : Option Name) → ReadyAt names done ready → ReadyAt ns done ready
 ready_more names ns keep None None h = tt
 ready_more names ns keep None (Some n) h = absurd h
 ready_more names ns keep (Some i) None h = absurd h
 ready_more names ns keep (Some i) (Some n) h = keep i n h
 
-pub queue_more : {names ns : List (Option Name)} {order : List ℕ} {listed begun from kept : ℕ} {done : Option ℕ} {removals : List Removal} {units : List (List Name)} {found : List Name} {asked : Option Name}
-    → ((i : ℕ) (n : Name) → name_at names i ≡ Some n → name_at ns i ≡ Some n) → QueueShows names order listed begun from kept done removals units found asked → QueueShows ns order listed begun from kept done removals units found asked
+pub queue_more : {names ns : List (Option Name)} {order : List ℕ} {listed begun from kept : ℕ} {done : Option ℕ} {removals : List Removal}
+    {units : List (List Name)} {found : List Name} {asked : Option Name}
+    → ((i : ℕ) (n : Name) → name_at names i ≡ Some n → name_at ns i ≡ Some n)
+    → QueueShows names order listed begun from kept done removals units found asked
+    → QueueShows ns order listed begun from kept done removals units found asked
 queue_more {names} {ns} keep q = record {
   todo = q.todo;
   ring = q.ring;
@@ -35,7 +39,8 @@ queue_more {names} {ns} keep q = record {
 }
 
 pub gather_more : {names ns : List (Option Name)} {order : List ℕ} {listed begun : ℕ} {done : Option ℕ} {removals : List Removal} {units : List (List Name)} {found : List Name}
-    → ((i : ℕ) (n : Name) → name_at names i ≡ Some n → name_at ns i ≡ Some n) → GatherShows names order listed begun done removals units found → GatherShows ns order listed begun done removals units found
+    → ((i : ℕ) (n : Name) → name_at names i ≡ Some n → name_at ns i ≡ Some n) → GatherShows names order listed begun done removals units found
+    → GatherShows ns order listed begun done removals units found
 gather_more {names} {ns} keep g = record {
   none_begun = g.none_begun;
   none_done = g.none_done;
@@ -64,7 +69,8 @@ named_in names (j ∷ at) (n ∷ of) h i (inl e) = (n, inl refl, ap (name_at nam
 named_in names (j ∷ at) (n ∷ of) h i (inr a) = let r = named_in names at of h.1 i a in (r.0, inr r.1, r.2)
 
 -- the first name is at the first index
-pub named_first : (names : List (Option Name)) (i : ℕ) (at : List ℕ) (of : List Name) → AreNamed names (i ∷ at) of → (n : Name) × (rest : List Name) × (of ≡ n ∷ rest) × (name_at names i ≡ Some n) × AreNamed names at rest
+pub named_first : (names : List (Option Name)) (i : ℕ) (at : List ℕ) (of : List Name) → AreNamed names (i ∷ at) of
+    → (n : Name) × (rest : List Name) × (of ≡ n ∷ rest) × (name_at names i ≡ Some n) × AreNamed names at rest
 named_first names i at [] h = absurd h
 named_first names i at (n ∷ of) h = (n, of, refl, h.0, h.1)
 
@@ -74,6 +80,7 @@ named_none names [] h = refl
 named_none names (n ∷ of) h = absurd h
 
 -- where all are begun, none is to be begun
-pub all_begun : (names : List (Option Name)) (order : List ℕ) (listed begun : ℕ) (todo : List Name) → listed ≤ length order → listed ≤ begun → AreNamed names (todo_of order listed begun) todo → todo ≡ []
+pub all_begun : (names : List (Option Name)) (order : List ℕ) (listed begun : ℕ) (todo : List Name) → listed ≤ length order → listed ≤ begun
+    → AreNamed names (todo_of order listed begun) todo → todo ≡ []
 all_begun names order listed begun todo room all h =
     named_none names todo (subst (λ (at : List ℕ). AreNamed names at todo) (drop_all begun (take listed order) (omega (arith, all, length-take-le listed order room))) h)

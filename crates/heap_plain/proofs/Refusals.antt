@@ -14,13 +14,24 @@ use Rattle.heap_plain.specs.Plain.{IsPlain}
 use Rattle.heap_plain.proofs.Resting.{in_open, is_staying}
 use Rattle.heap_plain.proofs.Entries.{Done, does}
 
-pub refuses : {z : Sizes} {p : Parts} {h : List Entry} {l m left room : ℕ} (asked : ℕ) (e : CreateErr) → IsPlain z p h → IsInFrame z h l → m ≡ made (after h) l → left ≡ z.names - m → room ≡ spare_at p.spare l → Refuses asked left room e
+pub refuses : {z : Sizes} {p : Parts} {h : List Entry} {l m left room : ℕ} (asked : ℕ) (e : CreateErr) → IsPlain z p h → IsInFrame z h l
+    → m ≡ made (after h) l → left ≡ z.names - m → room ≡ spare_at p.spare l → Refuses asked left room e
     → Done z p h (h ++ record { pass = Lane l; act = act_of_refusal asked e } ∷ []) (Lane l) (act_of_refusal asked e)
 refuses {l = l} asked (create.NamesSpent left) was frame is by_names by_stack d =
-    does (Lane l) (act.NamesSpent asked left) (act.NamesSpent asked left ∷ []) was (refl, tt) (record { in_range = frame.in_range; frame = in_open was.rest.between frame.opened; may = record { rest = omega (arith, d.0); short = d.1 } }, tt) was.shows
+    does (Lane l) (act.NamesSpent asked left) (act.NamesSpent asked left ∷ []) was (refl, tt) (
+      record { in_range = frame.in_range; frame = in_open was.rest.between frame.opened; may = record { rest = omega (arith, d.0); short = d.1 } },
+      tt,
+    ) was.shows
 refuses {l = l} asked (create.Full free) was frame is by_names by_stack d =
-    does (Lane l) (act.Full asked free) (act.Full asked free ∷ []) was (refl, tt)
-    (record { in_range = frame.in_range; frame = in_open was.rest.between frame.opened; may = record { names = omega (arith, d.0); rest = omega (arith, d.1, was.shows.free.count l frame.in_range); short = d.2 } }, tt) was.shows
+    does (Lane l) (act.Full asked free) (act.Full asked free ∷ []) was (refl, tt) (
+      record {
+        in_range = frame.in_range;
+        frame = in_open was.rest.between frame.opened;
+        may = record { names = omega (arith, d.0); rest = omega (arith, d.1, was.shows.free.count l frame.in_range); short = d.2 };
+      },
+      tt,
+    )
+    was.shows
 
 -- a refusal opens and closes nothing
 pub refusal_stays : (asked : ℕ) (e : CreateErr) → is_staying (act_of_refusal asked e) ≡ true

@@ -1,5 +1,5 @@
 -- The step of destruction that releases a unit.
-use Rattle.std.proofs.Common.{◌≡◌, ◌≢◌, ℕ, ◌+◌, ◌-◌, ◌<◌, ◌≤◌, ◌^◌, ◌==◌, ◌&&◌, ◌⊎◌, refl, sym, subst, ap, ◌∙◌, inl, inr, arith, Bool, cond, true, false, not, List, [], ◌∷◌, ◌++◌, append-nil, length, filter, get_or, count_by, Option, Some, None}
+use Rattle.std.proofs.Common.{◌≡◌, ◌≢◌, ℕ, ◌+◌, ◌-◌, ◌<◌, ◌≤◌, ◌^◌, ◌==◌, ◌&&◌, ◌⊎◌, refl, sym, subst, ap, ◌∙◌, inl, inr, arith, Bool, cond, true, false, not, List, [], ◌∷◌, append-nil, length, filter, get_or, count_by, Option, Some, None}
 use Rattle.std.specs.List.{list_all}
 use Rattle.std.proofs.lemmas.List.{length-map}
 use Rattle.std.proofs.lemmas.List.Sums.{length-filter}
@@ -8,7 +8,7 @@ use Rattle.world_model.specs.NameLists.{same_name, has, members, begins_with}
 use Rattle.world_model.specs.World.{World, Removal, Begun as AtBegun, Finished as AtFinished, is_at, destruction_order, occupied}
 use Rattle.world_model.specs.State.{State}
 use Rattle.world_model.specs.Next.{released}
-use Rattle.world_model.specs.Histories.{MayBy, Legal, state_of}
+use Rattle.world_model.specs.Histories.{MayBy, state_of}
 use Rattle.world_model.specs.Follows.{freed_by}
 use Rattle.world_model.proofs.ListFacts.{Among, among_filter, among_filter_test, filter_among, among_test, test_among}
 use Rattle.world_model.proofs.NameFacts.{same_name_true, has_among, among_has}
@@ -76,7 +76,8 @@ named_less names ns u keep (i ∷ at) (n ∷ of) out h = (keep i n h.0 (out n (i
 
 -- ---- a unit is released
 
-module _ {z : Sizes} {p : Parts} {h : List Entry} (amid : IsAmid z p h) (idle : p.phase ≡ Idle) (all : p.listed ≤ p.begun) (head : ℕ) (ready : p.done ≡ Some head) (few_items : item_count z < 2 ^ 32) where
+module _ {z : Sizes} {p : Parts} {h : List Entry} (amid : IsAmid z p h) (idle : p.phase ≡ Idle) (all : p.listed ≤ p.begun) (head : ℕ)
+    (ready : p.done ≡ Some head) (few_items : item_count z < 2 ^ 32) where
   abbrev s : State
   s = state_of h
 
@@ -180,7 +181,15 @@ module _ {z : Sizes} {p : Parts} {h : List Entry} (amid : IsAmid z p h) (idle : 
   left_is =
       let total = next_total z s Collector (act.Released n) release_may known.destroying.unmarked (λ m. true) in
       let idle_left : p.left ≡ length w.removals = left_idle p.phase w.removals w.found p.left k.removed.left_is idle in
-      omega (arith, freed_is (λ m. true), count_all (λ (m : Name). true) u (λ m. refl), count_all (λ (m : Name). true) (names_of rs) (λ m. refl), count_all (λ (m : Name). true) (names_of w.removals) (λ m. refl), length-map rs (λ (r : Removal). r.name), length-map w.removals (λ (r : Removal). r.name))
+      omega (
+        arith,
+        freed_is (λ m. true),
+        count_all (λ (m : Name). true) u (λ m. refl),
+        count_all (λ (m : Name). true) (names_of rs) (λ m. refl),
+        count_all (λ (m : Name). true) (names_of w.removals) (λ m. refl),
+        length-map rs (λ (r : Removal). r.name),
+        length-map w.removals (λ (r : Removal). r.name),
+      )
 
   pub size_few : get_or p.sizes head 0 ≤ p.left
   size_few = omega (arith, left_is, size_is)
@@ -469,13 +478,21 @@ module _ {z : Sizes} {p : Parts} {h : List Entry} (amid : IsAmid z p h) (idle : 
     todo = [];
     ring = q.ring;
     ready = None;
-    todo_at = named_less p.names t.names u (λ i m h o. (stays i m h o).0) _ [] (λ m a. absurd a) (subst (λ (todo : List Name). AreNamed p.names (todo_of p.order p.listed p.begun) todo) no_todo q.todo_at);
+    todo_at =
+        named_less p.names t.names u (λ i m h o. (stays i m h o).0) _ [] (λ m a. absurd a)
+        (subst (λ (todo : List Name). AreNamed p.names (todo_of p.order p.listed p.begun) todo) no_todo q.todo_at);
     ring_at = named_less p.names t.names u (λ i m h o. (stays i m h o).0) _ q.ring ring_out q.ring_at;
     ready_at = tt;
     queue = queue_release waits;
   }
 
-  pub release_shows : ShowsWorld z (record p { objects = o'; stock = record (p.stock) { free = t.free; spare = t.spare }; ends = record (p.ends) { left = p.left - get_or p.sizes head 0; done = None } }) (released w n) s.marks.kept s.marks.fresh s.marks.scanned s.collector.asked
+  pub release_shows : ShowsWorld z
+      (record p {
+        objects = o';
+        stock = record (p.stock) { free = t.free; spare = t.spare };
+        ends = record (p.ends) { left = p.left - get_or p.sizes head 0; done = None };
+      }) (released w n) s.marks.kept s.marks.fresh s.marks.scanned
+      s.collector.asked
   release_shows = record {
     gate = k.gate;
     objects = record { names = names'; units = units' };

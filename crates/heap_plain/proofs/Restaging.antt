@@ -8,23 +8,19 @@ use Rattle.std.proofs.lemmas.List.{length-map, length-set, get_or-set_same, get_
 use Rattle.world_model.specs.Sizes.{Sizes}
 use Rattle.world_model.specs.NameLists.{same_name}
 use Rattle.world_model.specs.World.{Removal}
-use Rattle.world_model.specs.State.{Frame}
 use Rattle.world_model.proofs.ListFacts.{Among, test_among}
 use Rattle.world_model.proofs.NameFacts.{same_name_true, same_name_refl}
 use Rattle.world_model.proofs.Counts.{count_names}
 use Rattle.world_model.proofs.Queues.{names_kept}
-use Rattle.heap_plain.specs.Types.{Name, Kind, Pass, Phase, Idle}
+use Rattle.heap_plain.specs.Types.{Name, Kind, Phase, Idle}
 use Rattle.heap_plain.specs.declared.life.Life.{Life}
 use Rattle.heap_plain.specs.declared.life.Life.TheVariants.{Free, Live}
 use Rattle.heap_plain.specs.Parts.{Objects, name_at, life_at, is_gone, stage_of}
-use Rattle.heap_plain.specs.Lists.{Distinct}
-use Rattle.heap_plain.specs.Units.{NamesShow, UnitsShow, StandsAt, LivesAt}
-use Rattle.heap_plain.specs.Roots.{RootsShow}
+use Rattle.heap_plain.specs.Units.{NamesShow, UnitsShow, StandsAt}
 use Rattle.heap_plain.specs.Stocking.{FreeShows, free_at}
 use Rattle.heap_plain.specs.Destroying.{RemovedShow, removal_at, GoneShow, LiesAt, at_end, still_there}
 use Rattle.heap_plain.proofs.WorldFacts.{differs}
 use Rattle.heap_plain.proofs.Standing.{life_below}
-use Rattle.heap_plain.proofs.SliceSteps.{count_cons}
 
 -- ---- lives
 
@@ -96,7 +92,8 @@ module _ (o : Objects) {ls : List Life} (same : SameLives o.lives ls) where
     all = λ u a. let r = us.all u a in (r.0, stands_lives r.0 u r.1);
   }
 
-pub free_lives : {z : Sizes} {names : List (Option Name)} {lives ls : List Life} {free spare : List ℕ} {used used' : ℕ → ℕ} → SameLives lives ls → ((lane : ℕ) → used' lane ≡ used lane) → FreeShows z names lives free spare used → FreeShows z names ls free spare used'
+pub free_lives : {z : Sizes} {names : List (Option Name)} {lives ls : List Life} {free spare : List ℕ} {used used' : ℕ → ℕ} → SameLives lives ls
+    → ((lane : ℕ) → used' lane ≡ used lane) → FreeShows z names lives free spare used → FreeShows z names ls free spare used'
 free_lives {z} {free = free} same counts f = record {
   free_len = f.free_len;
   spare_len = f.spare_len;
@@ -138,7 +135,8 @@ module _ (n : Name) (f : Removal → Removal) (keeps : (r : Removal) → (f r).n
   changed_among (s ∷ rs) r (inl e) = (s, inl refl, e)
   changed_among (s ∷ rs) r (inr a) = let t = changed_among rs r a in (t.0, inr t.1, t.2)
 
-  pub removed_changed : {z : Sizes} {names : List (Option Name)} {kinds : ℕ → List Kind} {lives ls : List Life} {polls ps : List ℕ} {left swept looked : ℕ} {removals : List Removal} {found : List Name} (x : ℕ)
+  pub removed_changed : {z : Sizes} {names : List (Option Name)} {kinds : ℕ → List Kind} {lives ls : List Life} {polls ps : List ℕ}
+      {left swept looked : ℕ} {removals : List Removal} {found : List Name} (x : ℕ)
       → NamesShow z names kinds → RemovedShow z names lives polls left swept Idle removals found looked → name_at names x ≡ Some n → SameLives lives ls → length ps ≡ length polls
       → ((i : ℕ) → i ≢ x → (life_at ls i ≡ life_at lives i) × (get_or ps i 0 ≡ get_or polls i 0)) → f (removal_at lives polls x n) ≡ removal_at ls ps x n
       → RemovedShow z names ls ps left swept Idle (changed n f removals) found looked
@@ -179,8 +177,11 @@ module _ (n : Name) (f : Removal → Removal) (keeps : (r : Removal) → (f r).n
 
 -- ---- removed units
 
-pub gone_changed : {z : Sizes} {o : Objects} {waiting ws : List ℕ} {ls : List Life} {removals rs : List Removal} {units : List (List Name)} → SameLives o.lives ls → GoneShow z o waiting removals units → length ws ≡ length waiting
-    → ((m : Name) → still_there rs m ≡ still_there removals m) → ((head : ℕ) (u : List Name) → LiesAt o waiting removals units head u → get_or ws head 0 ≡ count_by (λ m. not (at_end rs m)) u) → GoneShow z (record o { lives = ls }) ws rs units
+pub gone_changed : {z : Sizes} {o : Objects} {waiting ws : List ℕ} {ls : List Life} {removals rs : List Removal} {units : List (List Name)}
+    → SameLives o.lives ls → GoneShow z o waiting removals units → length ws ≡ length waiting
+    → ((m : Name) → still_there rs m ≡ still_there removals m)
+    → ((head : ℕ) (u : List Name) → LiesAt o waiting removals units head u → get_or ws head 0 ≡ count_by (λ m. not (at_end rs m)) u)
+    → GoneShow z (record o { lives = ls }) ws rs units
 gone_changed {o = o} {waiting} {ws} {ls} {removals} {rs} {units} same g len still waits = record {
   waiting_len = len ∙ g.waiting_len;
   each = λ i e. let r = g.each i (same.was_gone i e) in (r.0, lies _ r.0 r.1);
@@ -200,8 +201,10 @@ gone_changed {o = o} {waiting} {ws} {ls} {removals} {rs} {units} same g len stil
     }
 
 -- a removed object is where its name is
-pub gone_index : {z : Sizes} {names : List (Option Name)} {kinds : ℕ → List Kind} {lives : List Life} {polls : List ℕ} {left swept looked : ℕ} {phase : Phase} {removals : List Removal} {found : List Name}
-    → NamesShow z names kinds → RemovedShow z names lives polls left swept phase removals found looked → (x : ℕ) (n : Name) → name_at names x ≡ Some n → still_there removals n ≡ true → is_gone (life_at lives x) ≡ true
+pub gone_index : {z : Sizes} {names : List (Option Name)} {kinds : ℕ → List Kind} {lives : List Life} {polls : List ℕ} {left swept looked : ℕ}
+    {phase : Phase} {removals : List Removal} {found : List Name}
+    → NamesShow z names kinds → RemovedShow z names lives polls left swept phase removals found looked → (x : ℕ) (n : Name) → name_at names x ≡ Some n
+    → still_there removals n ≡ true → is_gone (life_at lives x) ≡ true
 gone_index {lives = lives} {removals = removals} ns k x n at e =
     let r = test_among (λ r. same_name n r.name) removals e in
     let j = k.gone r.0 r.1 in

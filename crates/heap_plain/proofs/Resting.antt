@@ -1,5 +1,5 @@
 -- What a solo call leaves: nothing under way, root units marked, and what lanes hold.
-use Rattle.std.proofs.Common.{◌≡◌, ◌≢◌, ℕ, refl, sym, subst, ap, ◌∙◌, inl, inr, Bool, true, false, List, [], ◌∷◌, ◌++◌, map}
+use Rattle.std.proofs.Common.{◌≡◌, ℕ, refl, sym, subst, ◌∙◌, inl, inr, Bool, true, false, List, [], ◌∷◌, ◌++◌, map}
 use Rattle.std.specs.List.{list_all, flat_map, AllByRecursion}
 use Rattle.std.proofs.lemmas.List.Folds.{list_any-append}
 use Rattle.world_model.specs.Sizes.{Sizes}
@@ -18,11 +18,11 @@ use Rattle.world_model.proofs.Between.{calls_end_holds}
 use Rattle.world_model.proofs.Inductions.{one_more, by_more_states}
 use Rattle.world_model.proofs.Barrier.{settled_marking}
 use Rattle.world_model.proofs.Removals.{roots_stay_marked_holds, start_marks_roots_holds}
-use Rattle.heap_plain.specs.Types.{Name, Ref, Pass, Lane, Marker, Collector, Phase, Marking, Gathering, Act, Entry}
+use Rattle.heap_plain.specs.Types.{Name, Ref, Pass, Lane, Marker, Collector, Marking, Act, Entry}
 use Rattle.heap_plain.specs.Types.act
 use Rattle.heap_plain.specs.Types.begin
 use Rattle.heap_plain.specs.Types.commit
-use Rattle.heap_plain.specs.Parts.{Holds, name_at}
+use Rattle.heap_plain.specs.Parts.{Holds}
 use Rattle.heap_plain.specs.Plain.{IsAtRest}
 use Rattle.heap_plain.proofs.WorldFacts.{at_set}
 
@@ -123,13 +123,17 @@ roots_one z xs e other legal may was marking =
 roots_call : (z : Sizes) (old new : List Entry) (p : Pass) (a : Act) → is_start a ≡ false → Appends z old new p a → Rooted (state_of old) → Rooted (state_of new)
 roots_call z old new p a other call was =
     subst (λ (es : List Entry). Rooted (state_of es)) (sym call.grown)
-    (by_more_states z old Rooted (λ e. is_start e.act ≡ false) was (λ xs e legal may q h. roots_one z xs e q legal may h) (by p call.acts) (subst (λ (es : List Entry). LegalFrom z (state_of []) es) call.grown call.legal)
+    (by_more_states z old Rooted (λ e. is_start e.act ≡ false) was (λ xs e legal may q h. roots_one z xs e q legal may h) (by p call.acts)
+    (subst (λ (es : List Entry). LegalFrom z (state_of []) es) call.grown call.legal)
     (each_of_call (λ b. is_start b ≡ false) part_starts p a other call.acts call.call.0))
 
 roots_start : (z : Sizes) (old new : List Entry) (p : Pass) → Appends z old new p (act.BeginGc begin.Started) → Rooted (state_of new)
 roots_start z old new Collector call = λ marking. start_marks_roots_holds z old new call
 roots_start z old new (Lane lane) call = absurd (subst (λ (acts : List Act). LegalFrom z (state_of old) (by (Lane lane) acts)) call.call.0.are (legal_call z old new (Lane lane) _ call)).0.may
-roots_start z old new (Marker marker) call = absurd (subst (λ (acts : List Act). LegalFrom z (state_of old) (by (Marker marker) acts)) call.call.0.are (legal_call z old new (Marker marker) _ call)).0.may
+roots_start z old new (Marker marker) call =
+    absurd
+    (subst (λ (acts : List Act). LegalFrom z (state_of old) (by (Marker marker) acts)) call.call.0.are
+    (legal_call z old new (Marker marker) _ call)).0.may
 
 start_is : (a : Act) → is_start a ≡ true → a ≡ act.BeginGc begin.Started
 start_is (act.BeginGc begin.Started) e = refl
@@ -174,10 +178,12 @@ holds_run s p [] all k n h = h
 holds_run s p (a ∷ acts) all k n h = holds_run (next s (record { pass = p; act = a })) p acts all.1 k n (holds_next s p a all.0 k n h)
 
 -- what a lane holds it holds after a call that opens and closes no frame
-pub holds_call : {z : Sizes} {old new : List Entry} {p : Pass} {a : Act} → Appends z old new p a → is_staying a ≡ true → (k : ℕ) (n : Name) → HoldsName (state_of old) k n → HoldsName (state_of new) k n
+pub holds_call : {z : Sizes} {old new : List Entry} {p : Pass} {a : Act} → Appends z old new p a → is_staying a ≡ true → (k : ℕ) (n : Name)
+    → HoldsName (state_of old) k n → HoldsName (state_of new) k n
 holds_call {z} {old} {new} {p} {a} call e k n h = subst (λ (s : State). HoldsName s k n) (sym (state_after z old new p a call))
     (holds_run (state_of old) p call.acts (each_of_call (λ b. is_staying b ≡ true) part_stays p a e call.acts call.call.0) k n h)
 
 -- and with it its reference, where names stay
-pub keeps : {z : Sizes} {old new : List Entry} {p : Pass} {a : Act} → Appends z old new p a → is_staying a ≡ true → (names : List _) (k : ℕ) (r : Ref) → Holds record { history = old; names = names } k r → Holds record { history = new; names = names } k r
+pub keeps : {z : Sizes} {old new : List Entry} {p : Pass} {a : Act} → Appends z old new p a → is_staying a ≡ true → (names : List _) (k : ℕ) (r : Ref)
+    → Holds record { history = old; names = names } k r → Holds record { history = new; names = names } k r
 keeps call e names k r h = record { given = holds_call call e k r.name h.given; placed = h.placed; alone = h.alone }

@@ -145,7 +145,8 @@ module _ {z : Sizes} {p : Parts} {h : List Entry} {l : ℕ} {at : Ref} (was : Is
     room : p.pushed < length p.work
     room = omega (arith, has_room e white, s.work.work_len)
 
-    after_mark : MarksShow p.objects (after h).units (set p.marked head true) (pushed_of p.work p.pushed ++ head ∷ []) (grey_of p.work p.scanned p.pushed ++ head ∷ []) (n ∷ (state_of h).marks.kept) (state_of h).marks.fresh (state_of h).marks.scanned
+    after_mark : MarksShow p.objects (after h).units (set p.marked head true) (pushed_of p.work p.pushed ++ head ∷ [])
+        (grey_of p.work p.scanned p.pushed ++ head ∷ []) (n ∷ (state_of h).marks.kept) (state_of h).marks.fresh (state_of h).marks.scanned
     after_mark = mark_one s.names s.units apart head u n stands member white inside ((barred z h was.legal).tricolour.scanned_kept (sym s.phase ∙ e) u stands.among) (s.marks e)
 
     pub may_keep : MayBy z (state_of h) (Lane l) (act.Kept n)
@@ -196,4 +197,13 @@ module _ {z : Sizes} {p : Parts} {h : List Entry} {l : ℕ} {at : Ref} (was : Is
       tt,
     ),
   )
-      record { gate = s.gate; objects = s.objects; rows = s.rows; roots = roots_set at.index n true s.names here s.roots; garbage = s.garbage; colours = shaded e white; stock = s.stock; ends = s.ends }
+      record {
+        gate = s.gate;
+        objects = s.objects;
+        rows = s.rows;
+        roots = roots_set at.index n true s.names here s.roots;
+        garbage = s.garbage;
+        colours = shaded e white;
+        stock = s.stock;
+        ends = s.ends;
+      }

@@ -44,7 +44,8 @@ worklist_room {marked} {work} {pushed} head w inside white =
     small i (inl e) = omega arith
     small i (inr a) = bit_below marked i (w.set i a)
 
-worklist_push : {marked : List Bool} {work : List ℕ} {pushed : ℕ} (head : ℕ) → IsWorklist marked work pushed → head < length marked → get_or marked head false ≡ false → IsWorklist (set marked head true) (set work pushed head) (pushed + 1)
+worklist_push : {marked : List Bool} {work : List ℕ} {pushed : ℕ} (head : ℕ) → IsWorklist marked work pushed → head < length marked
+    → get_or marked head false ≡ false → IsWorklist (set marked head true) (set work pushed head) (pushed + 1)
 worklist_push {marked} {work} {pushed} head w inside white =
     let listed = take_more_set work pushed head (worklist_room head w inside white) in
     record {
@@ -71,7 +72,8 @@ can_join firsts At bits (x ∷ xs) ys a b = (a.0, a.1, can_join firsts At (set b
 
 module _ {names : List (Option Name)} {firsts : List ℕ} {marker : ℕ} where
   -- where all units are marked, nothing changes
-  pub shades_stay : {At : ℕ → Type 0} {marked : List Bool} {work : List ℕ} {pushed : ℕ} {diary : List Entry} → IsWorklist marked work pushed → ((t : ℕ) → At t → get_or marked (first_at firsts t) false ≡ true)
+  pub shades_stay : {At : ℕ → Type 0} {marked : List Bool} {work : List ℕ} {pushed : ℕ} {diary : List Entry} → IsWorklist marked work pushed
+      → ((t : ℕ) → At t → get_or marked (first_at firsts t) false ≡ true)
       → Shades names firsts At marker marked marked work work pushed pushed diary diary
   shades_stay {marked = marked} {work} {pushed} {diary} fits each = record {
     heads = [];
@@ -84,8 +86,11 @@ module _ {names : List (Option Name)} {firsts : List ℕ} {marker : ℕ} where
   }
 
   -- one white unit
-  pub shades_one : {At : ℕ → Type 0} {marked : List Bool} {work : List ℕ} {pushed : ℕ} {diary : List Entry} (t head : ℕ) (n : Name) → At t → ((r : ℕ) → At r → r ≡ t) → first_at firsts t ≡ head → head < length marked → get_or marked head false ≡ false → name_at names head ≡ Some n
-      → IsWorklist marked work pushed → Shades names firsts At marker marked (set marked head true) work (set work pushed head) pushed (pushed + 1) diary (diary ++ record { pass = Marker marker; act = act.Kept n } ∷ [])
+  pub shades_one : {At : ℕ → Type 0} {marked : List Bool} {work : List ℕ} {pushed : ℕ} {diary : List Entry} (t head : ℕ) (n : Name) → At t
+      → ((r : ℕ) → At r → r ≡ t) → first_at firsts t ≡ head → head < length marked → get_or marked head false ≡ false → name_at names head ≡ Some n
+      → IsWorklist marked work pushed
+      → Shades names firsts At marker marked (set marked head true) work (set work pushed head) pushed (pushed + 1) diary
+      (diary ++ record { pass = Marker marker; act = act.Kept n } ∷ [])
   shades_one {marked = marked} {work} {pushed} {diary} t head n there alone is inside white named fits = record {
     heads = head ∷ [];
     listed = take_more_set work pushed head (worklist_room head fits inside white);
@@ -99,7 +104,9 @@ module _ {names : List (Option Name)} {firsts : List ℕ} {marker : ℕ} where
   -- first those of some indexes, and then those of the others
   pub shades_join : {First Second All : ℕ → Type 0} {marked mid marked' : List Bool} {work between work' : List ℕ} {pushed used pushed' : ℕ} {old diary new : List Entry}
       → ((t : ℕ) → First t → All t) → ((t : ℕ) → Second t → All t) → ((t : ℕ) → All t → First t ⊎ Second t)
-      → Shades names firsts First marker marked mid work between pushed used old diary → Shades names firsts Second marker mid marked' between work' used pushed' diary new → Shades names firsts All marker marked marked' work work' pushed pushed' old new
+      → Shades names firsts First marker marked mid work between pushed used old diary
+      → Shades names firsts Second marker mid marked' between work' used pushed' diary new
+      → Shades names firsts All marker marked marked' work work' pushed pushed' old new
   shades_join {First = First} {Second = Second} {All = All} {marked} {mid} {marked'} {work} {between} {work'} {pushed} {used} {pushed'} {old} {diary} {new} left right either a b = record {
     heads = a.heads ++ b.heads;
     listed = b.listed ∙ ap (λ (xs : List ℕ). xs ++ b.heads) a.listed ∙ append_assoc (take pushed work) a.heads b.heads;
@@ -107,12 +114,15 @@ module _ {names : List (Option Name)} {firsts : List ℕ} {marker : ℕ} where
     entries = b.entries ∙ ap (λ (es : List Entry). es ++ by (Marker marker) (map act.Kept (names_at names b.heads))) a.entries
         ∙ append_assoc old (by (Marker marker) (map act.Kept (names_at names a.heads))) (by (Marker marker) (map act.Kept (names_at names b.heads)))
         ∙ ap (λ (es : List Entry). old ++ es) (sym notes);
-    can = can_join firsts All marked a.heads b.heads (can_shade firsts left marked a.heads a.can) (subst (λ (xs : List Bool). CanShade firsts All xs b.heads) a.bits (can_shade firsts right mid b.heads b.can));
+    can =
+        can_join firsts All marked a.heads b.heads (can_shade firsts left marked a.heads a.can)
+        (subst (λ (xs : List Bool). CanShade firsts All xs b.heads) a.bits (can_shade firsts right mid b.heads b.can));
     each = λ t h. each t (either t h);
     fits = b.fits;
   }
     where
-      notes : by (Marker marker) (map act.Kept (names_at names (a.heads ++ b.heads))) ≡ by (Marker marker) (map act.Kept (names_at names a.heads)) ++ by (Marker marker) (map act.Kept (names_at names b.heads))
+      notes : by (Marker marker) (map act.Kept (names_at names (a.heads ++ b.heads)))
+          ≡ by (Marker marker) (map act.Kept (names_at names a.heads)) ++ by (Marker marker) (map act.Kept (names_at names b.heads))
       notes =
           ap (λ (ns : List Name). by (Marker marker) (map act.Kept ns)) (names_at-append names a.heads b.heads)
           ∙ ap (λ (acts : List Act). by (Marker marker) acts) (map-append act.Kept (names_at names a.heads) (names_at names b.heads))
@@ -122,7 +132,9 @@ module _ {names : List (Option Name)} {firsts : List ℕ} {marker : ℕ} where
       each t (inl h) = ap (λ (xs : List Bool). get_or xs (first_at firsts t) false) b.bits ∙ all_still mid b.heads (first_at firsts t) (a.each t h)
       each t (inr h) = b.each t h
 
-pub shades_len : {names : List (Option Name)} {firsts : List ℕ} {At : ℕ → Type 0} {marker : ℕ} {marked marked' : List Bool} {work work' : List ℕ} {pushed pushed' : ℕ} {old new : List Entry} → Shades names firsts At marker marked marked' work work' pushed pushed' old new → length marked' ≡ length marked
+pub shades_len : {names : List (Option Name)} {firsts : List ℕ} {At : ℕ → Type 0} {marker : ℕ} {marked marked' : List Bool} {work work' : List ℕ}
+    {pushed pushed' : ℕ} {old new : List Entry} → Shades names firsts At marker marked marked' work work' pushed pushed' old new
+    → length marked' ≡ length marked
 shades_len {marked = marked} k = ap (λ (xs : List Bool). length xs) k.bits ∙ length-all_set marked k.heads
 
 -- ---- the cells of a row, and of a unit
@@ -140,7 +152,8 @@ module _ (kinds : List Kind) (slots : ℕ) (targets : List (Option ℕ)) (links 
   pub row_unit : (index k n t : ℕ) → k < n → index ≡ chained links head k → InRow targets (index * slots) (kind_at kinds index).refs t → InUnit kinds slots targets links head n t
   row_unit index k n t below is (slot, low, at) = (k, slot, below, subst (λ (x : ℕ). slot < (kind_at kinds x).refs) is low, ap (λ (x : ℕ). target_at slots targets x slot) (sym is) ∙ at)
 
-  pub unit_row : (index k t : ℕ) → index ≡ chained links head k → InUnit kinds slots targets links head (k + 1) t → InUnit kinds slots targets links head k t ⊎ InRow targets (index * slots) (kind_at kinds index).refs t
+  pub unit_row : (index k t : ℕ) → index ≡ chained links head k → InUnit kinds slots targets links head (k + 1) t
+      → InUnit kinds slots targets links head k t ⊎ InRow targets (index * slots) (kind_at kinds index).refs t
   unit_row index k t is (j, slot, below, low, at) = dite (ℕ_discrete j k)
       (λ (e : j ≡ k).
       let here : chained links head j ≡ index = ap (λ (x : ℕ). chained links head x) e ∙ sym is in

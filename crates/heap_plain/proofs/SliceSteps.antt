@@ -1,5 +1,5 @@
 -- A unit that is scanned.
-use Rattle.std.proofs.Common.{◌≡◌, ◌≢◌, ℕ, ◌+◌, ◌<◌, ◌||◌, ◌&&◌, not, refl, sym, subst, ap, ◌∙◌, inl, inr, suc, arith, Bool, cond, true, false, List, [], ◌∷◌, length, get_or, ◌⊎◌, filter, Option, Some}
+use Rattle.std.proofs.Common.{◌≡◌, ◌≢◌, ℕ, ◌+◌, ◌<◌, ◌&&◌, not, refl, sym, subst, ap, ◌∙◌, inl, inr, suc, arith, Bool, cond, true, false, List, [], ◌∷◌, length, ◌⊎◌, filter, Option, Some}
 use Rattle.std.specs.List.{list_any, sum_by}
 use Rattle.std.proofs.Math.Logic.{dite}
 use Rattle.std.proofs.Math.Decide.{ℕ_discrete}
@@ -9,7 +9,7 @@ use Rattle.world_model.specs.Sizes.{Sizes}
 use Rattle.world_model.specs.NameLists.{same_name, same_pass, has}
 use Rattle.world_model.specs.State.{Marks, is_grey, grey_in}
 use Rattle.world_model.specs.Engines.{is_marker}
-use Rattle.world_model.proofs.ListFacts.{Among, and_true, or_true, among_test, test_among}
+use Rattle.world_model.proofs.ListFacts.{Among, and_true, or_true, among_test}
 use Rattle.world_model.proofs.NameFacts.{same_name_true, same_name_refl, has_among}
 use Rattle.world_model.proofs.Units.{AreApart}
 use Rattle.heap_plain.specs.Types.{Name, Kind, Pass, Lane, Marker, Collector, Phase, Idle, Marking, Gathering}
@@ -26,7 +26,8 @@ use Rattle.heap_plain.proofs.Listings.{chained_next}
 -- ---- one unit is scanned
 
 module _ {z : Sizes} {o : Objects} {kinds : ℕ → List Kind} {units : List (List Name)} (ns : NamesShow z o.names kinds) (us : UnitsShow z o units) (apart : AreApart kinds units) where
-  scanned_same : (head other : ℕ) (u v : List Name) (n : Name) (scanned : List Name) → StandsAt o units head u → StandsAt o units other v → has u n ≡ true → other ≢ head → list_any (has scanned) v ≡ list_any (has (n ∷ scanned)) v
+  scanned_same : (head other : ℕ) (u v : List Name) (n : Name) (scanned : List Name) → StandsAt o units head u → StandsAt o units other v
+      → has u n ≡ true → other ≢ head → list_any (has scanned) v ≡ list_any (has (n ∷ scanned)) v
   scanned_same head other u v n scanned t q e ne = any_same (has scanned) (has (n ∷ scanned)) v (λ m a. let f = not_in ns us apart head other u v n m t q e ne a in rw f refl)
 
   pub scan_one : {marked : List Bool} {listed grey : List ℕ} {kept fresh scanned : List Name} (head : ℕ) (u : List Name) (n : Name) → StandsAt o units head u → has u n ≡ true → Distinct (head ∷ grey)
@@ -65,11 +66,14 @@ module _ {z : Sizes} {o : Objects} {kinds : ℕ → List Kind} {units : List (Li
 -- ---- what a slice finds at a member
 
 -- the index of a member of a unit, along its links
-pub linked_place : (names : List (Option Name)) (links : List ℕ) (i : ℕ) (u : List Name) (n : Name) → AreLinked names links i u → has u n ≡ true → (k : ℕ) × (k < length u) × (name_at names (chained links i k) ≡ Some n)
+pub linked_place : (names : List (Option Name)) (links : List ℕ) (i : ℕ) (u : List Name) (n : Name) → AreLinked names links i u → has u n ≡ true
+    → (k : ℕ) × (k < length u) × (name_at names (chained links i k) ≡ Some n)
 linked_place names links i [] n h e = absurd cc
 linked_place names links i (m ∷ u) n h e = go (or_true (same_name n m) (has u n) e) (linked_place names links (next_at links i) u n h.1)
   where
-    go : (same_name n m ≡ true) ⊎ (has u n ≡ true) → (has u n ≡ true → (k : ℕ) × (k < length u) × (name_at names (chained links (next_at links i) k) ≡ Some n)) → (k : ℕ) × (k < length (m ∷ u)) × (name_at names (chained links i k) ≡ Some n)
+    go : (same_name n m ≡ true) ⊎ (has u n ≡ true)
+        → (has u n ≡ true → (k : ℕ) × (k < length u) × (name_at names (chained links (next_at links i) k) ≡ Some n))
+        → (k : ℕ) × (k < length (m ∷ u)) × (name_at names (chained links i k) ≡ Some n)
     go (inl same) rest = (0, omega arith, h.0 ∙ ap (λ (x : Name). Some x) (sym (same_name_true n m same)))
     go (inr more) rest = let r = rest more in (suc r.0, omega (arith, r.1), ap (name_at names) (chained_next links i r.0) ∙ r.2)
 

@@ -23,7 +23,8 @@ length-full_stacks quota (suc lanes) =
     omega (arith, length-falling (lanes * quota) quota, suc-mul lanes quota)
 
 -- one more number is pushed
-pub falling_more : (all old : List ℕ) (from count k v : ℕ) → k < count → v ≡ from + (count - 1 - k) → all ≡ old ++ take k (falling from count) → all ++ v ∷ [] ≡ old ++ take (k + 1) (falling from count)
+pub falling_more : (all old : List ℕ) (from count k v : ℕ) → k < count → v ≡ from + (count - 1 - k) → all ≡ old ++ take k (falling from count)
+    → all ++ v ∷ [] ≡ old ++ take (k + 1) (falling from count)
 falling_more all old from count k v below is was =
     ap (λ (xs : List ℕ). xs ++ v ∷ []) was
     ∙ append_assoc old (take k (falling from count)) (v ∷ [])

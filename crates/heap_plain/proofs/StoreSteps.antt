@@ -4,7 +4,7 @@ use Rattle.std.specs.Option.{option_map_or}
 use Rattle.std.proofs.Math.ListN.{set}
 use Rattle.world_model.specs.Sizes.{Sizes, item_count}
 use Rattle.world_model.specs.NameLists.{has, set_at, set_name}
-use Rattle.world_model.specs.World.{unit_of, kind_of, refs_of, plain_of}
+use Rattle.world_model.specs.World.{kind_of, refs_of, plain_of}
 use Rattle.world_model.specs.State.{Holds as HoldsName}
 use Rattle.world_model.specs.LaneSteps.{IsShaded}
 use Rattle.world_model.specs.Histories.{Legal, after, state_of}
@@ -79,20 +79,44 @@ module _ {z : Sizes} {p : Parts} {h : List Entry} {l : ℕ} {at : Ref} (was : Is
 
   -- ---- plain cells
 
-  pub plain_read : (slot got : ℕ) → z.slots - plain_of (after h) n ≤ slot → slot < z.slots → got ≡ get_or p.plains (at.index * z.slots + slot) 0 → Done z p h (h ++ record { pass = Lane l; act = act.ReadPlain n slot got } ∷ []) (Lane l) (act.ReadPlain n slot got)
-  plain_read slot got low high is = does (Lane l) (act.ReadPlain n slot got) (act.ReadPlain n slot got ∷ []) was (refl, tt)
-      (record { in_range = frame.in_range; frame = in_open was.rest.between frame.opened; may = (record { held = held.given; first = low; last = high }, is ∙ s.cells.numbers at.index n slot here high) }, tt) s
+  pub plain_read : (slot got : ℕ) → z.slots - plain_of (after h) n ≤ slot → slot < z.slots → got ≡ get_or p.plains (at.index * z.slots + slot) 0
+      → Done z p h (h ++ record { pass = Lane l; act = act.ReadPlain n slot got } ∷ []) (Lane l) (act.ReadPlain n slot got)
+  plain_read slot got low high is = does (Lane l) (act.ReadPlain n slot got) (act.ReadPlain n slot got ∷ []) was (refl, tt) (
+    record {
+      in_range = frame.in_range;
+      frame = in_open was.rest.between frame.opened;
+      may = (record { held = held.given; first = low; last = high }, is ∙ s.cells.numbers at.index n slot here high);
+    },
+    tt,
+  ) s
 
   pub plain_write : (slot value got : ℕ) → z.slots - plain_of (after h) n ≤ slot → slot < z.slots → got ≡ get_or p.plains (at.index * z.slots + slot) 0
-      → Done z (record p { rows = with_plain p (at.index * z.slots + slot) value }) h (h ++ record { pass = Lane l; act = act.WritePlain n slot value got } ∷ []) (Lane l) (act.WritePlain n slot value got)
-  plain_write slot value got low high is = does (Lane l) (act.WritePlain n slot value got) (act.WritePlain n slot value got ∷ []) was (refl, tt)
-      (record { in_range = frame.in_range; frame = in_open was.rest.between frame.opened; may = (record { held = held.given; first = low; last = high }, is ∙ s.cells.numbers at.index n slot here high) }, tt)
-      record { gate = s.gate; objects = s.objects; rows = record { kinds = s.kinds; cells = numbers_write at.index n slot s.names here high s.cells value }; roots = s.roots; garbage = s.garbage; colours = s.colours; stock = s.stock; ends = s.ends }
+      → Done z (record p { rows = with_plain p (at.index * z.slots + slot) value }) h
+      (h ++ record { pass = Lane l; act = act.WritePlain n slot value got } ∷ []) (Lane l) (act.WritePlain n slot value got)
+  plain_write slot value got low high is = does (Lane l) (act.WritePlain n slot value got) (act.WritePlain n slot value got ∷ []) was (refl, tt) (
+    record {
+      in_range = frame.in_range;
+      frame = in_open was.rest.between frame.opened;
+      may = (record { held = held.given; first = low; last = high }, is ∙ s.cells.numbers at.index n slot here high);
+    },
+    tt,
+  )
+      record {
+        gate = s.gate;
+        objects = s.objects;
+        rows = record { kinds = s.kinds; cells = numbers_write at.index n slot s.names here high s.cells value };
+        roots = s.roots;
+        garbage = s.garbage;
+        colours = s.colours;
+        stock = s.stock;
+        ends = s.ends;
+      }
 
   -- ---- what a cell gives
 
   -- a reference that is given is held
-  given_held : (o : Option ℕ) (got : Option Ref) (old : List Entry) (a : Act) → Legal z (old ++ record { pass = Lane l; act = a } ∷ []) → ((r : Ref) → got ≡ Some r → has (given l a) r.name ≡ true) → Refers p.names o got
+  given_held : (o : Option ℕ) (got : Option Ref) (old : List Entry) (a : Act) → Legal z (old ++ record { pass = Lane l; act = a } ∷ [])
+      → ((r : Ref) → got ≡ Some r → has (given l a) r.name ≡ true) → Refers p.names o got
       → IfSome got (λ r. Holds record { history = old ++ record { pass = Lane l; act = a } ∷ []; names = p.names } l r)
   given_held o None old a legal gives e = tt
   given_held None (Some r) old a legal gives e = absurd e
@@ -116,10 +140,19 @@ module _ {z : Sizes} {p : Parts} {h : List Entry} {l : ℕ} {at : Ref} (was : Is
   gives_it None r e = absurd cc
   gives_it (Some q) r e = let same : q ≡ r = cc in rw (ap (λ (x : Ref). x.name) same, same_name_refl r.name) refl
 
-  pub ref_read : (slot : ℕ) → slot < refs_of (after h) n → (got : Option Ref) → Refers p.names (target_at z.slots p.targets at.index slot) got → Gives p (h ++ record { pass = Lane l; act = read_act slot got } ∷ []) (read_act slot got) got
+  pub ref_read : (slot : ℕ) → slot < refs_of (after h) n → (got : Option Ref) → Refers p.names (target_at z.slots p.targets at.index slot) got
+      → Gives p (h ++ record { pass = Lane l; act = read_act slot got } ∷ []) (read_act slot got) got
   ref_read slot is_ref got refers =
       let got_is = refers_name p.names p.lives (target_at z.slots p.targets at.index slot) ((after h).cell n slot) got (aims slot (ref_below slot is_ref)) refers in
-      let done = does (Lane l) (read_act slot got) (read_act slot got ∷ []) was (refl, tt) (record { in_range = frame.in_range; frame = in_open was.rest.between frame.opened; may = (record { held = held.given; in_range = is_ref }, got_is) }, tt) s in
+      let done =
+      does (Lane l) (read_act slot got) (read_act slot got ∷ []) was (refl, tt) (
+        record {
+          in_range = frame.in_range;
+          frame = in_open was.rest.between frame.opened;
+          may = (record { held = held.given; in_range = is_ref }, got_is);
+        },
+        tt,
+      ) s in
       record { done = done; given = given_held (target_at z.slots p.targets at.index slot) got h (read_act slot got) done.plain.legal (gives_it got) refers }
 
   -- ---- a reference is written
@@ -176,7 +209,9 @@ module _ {z : Sizes} {p : Parts} {h : List Entry} {l : ℕ} {at : Ref} (was : Is
     write_entry to = record { pass = Lane l; act = write_act to }
 
     -- the rows after a store
-    rows_written : (to : Option Ref) → Stored to → CellsShow z p.names p.lives p.kinds (set p.targets place (index_of to)) p.plains (after h).kinds (set_name (after h).cell n (set_at ((after h).cell n) slot (name_of to))) (after h).plain
+    rows_written : (to : Option Ref) → Stored to
+        → CellsShow z p.names p.lives p.kinds (set p.targets place (index_of to)) p.plains (after h).kinds
+        (set_name (after h).cell n (set_at ((after h).cell n) slot (name_of to))) (after h).plain
     rows_written to k = cells_write at.index n slot s.names here in_row s.cells (index_of to) (name_of to) (omega (arith, refs_are)) (stored_aims to k) (stored_below to k)
 
     -- what a store does
@@ -193,7 +228,17 @@ module _ {z : Sizes} {p : Parts} {h : List Entry} {l : ℕ} {at : Ref} (was : Is
             may = record { place = record { held = held.given; in_range = is_ref }; held = stored_names to k; was = old_is; shaded = stored_shaded to k e };
           },
           tt,
-        ) record { gate = s.gate; objects = s.objects; rows = record { kinds = s.kinds; cells = rows_written to k }; roots = s.roots; garbage = s.garbage; colours = s.colours; stock = s.stock; ends = s.ends } in
+        )
+        record {
+          gate = s.gate;
+          objects = s.objects;
+          rows = record { kinds = s.kinds; cells = rows_written to k };
+          roots = s.roots;
+          garbage = s.garbage;
+          colours = s.colours;
+          stock = s.stock;
+          ends = s.ends;
+        } in
         record { done = done; given = given_held (target_at z.slots p.targets at.index slot) old h (write_act to) done.plain.legal (gives_it old) refers }
 
     -- the unit of the target is marked first
@@ -202,7 +247,11 @@ module _ {z : Sizes} {p : Parts} {h : List Entry} {l : ℕ} {at : Ref} (was : Is
     shades r k e white =
         let note : Entry = record { pass = Lane l; act = act.Kept r.name } in
         let whole : h ++ note ∷ write_entry (Some r) ∷ [] ≡ (h ++ note ∷ []) ++ write_entry (Some r) ∷ [] = sym (append_assoc h (note ∷ []) (write_entry (Some r) ∷ [])) in
-        let done = subst (λ (es : List Entry). Done z (record p { colours = root.shading p (first_at p.firsts r.index); rows = with_target p place (Some r.index) }) h es (Lane l) (write_act (Some r))) whole
+        let done =
+        subst
+        (λ (es : List Entry).
+        Done z (record p { colours = root.shading p (first_at p.firsts r.index); rows = with_target p place (Some r.index) }) h es (Lane l)
+        (write_act (Some r))) whole
         (does (Lane l) (write_act (Some r)) (act.Kept r.name ∷ write_act (Some r) ∷ []) was (inr (r.name, refl), tt) (
           root.may_keep was frame k e white,
           (
@@ -218,7 +267,17 @@ module _ {z : Sizes} {p : Parts} {h : List Entry} {l : ℕ} {at : Ref} (was : Is
             },
             tt,
           ),
-        ) record { gate = s.gate; objects = s.objects; rows = record { kinds = s.kinds; cells = rows_written (Some r) k }; roots = s.roots; garbage = s.garbage; colours = root.shaded was frame k e white; stock = s.stock; ends = s.ends }) in
+        )
+        record {
+          gate = s.gate;
+          objects = s.objects;
+          rows = record { kinds = s.kinds; cells = rows_written (Some r) k };
+          roots = s.roots;
+          garbage = s.garbage;
+          colours = root.shaded was frame k e white;
+          stock = s.stock;
+          ends = s.ends;
+        }) in
         record { done = done; given = given_held (target_at z.slots p.targets at.index slot) old (h ++ note ∷ []) (write_act (Some r)) done.plain.legal (gives_it old) refers }
 
     writes_by : (to : Option Ref) → Stored to → (marked : List Bool) (work : List ℕ) (pushed : ℕ) (mid : List Entry) (b : Bool) → must_shade p.phase p.firsts p.marked to ≡ b

@@ -13,13 +13,12 @@ use Rattle.world_model.specs.World.{World, Removal, is_at, has_stage, left_in}
 use Rattle.world_model.specs.World as model
 use Rattle.world_model.specs.CollectorSteps.{Sweeps}
 use Rattle.world_model.specs.Histories.{MayBy, after, state_of}
-use Rattle.world_model.specs.Next.{next}
 use Rattle.world_model.proofs.ListFacts.{Among, among_append, among_left, among_right, among_test}
 use Rattle.world_model.proofs.NameFacts.{same_name_refl, has_among, among_has, among_members}
 use Rattle.world_model.proofs.Queues.{IsQueue, queue_start, named_any, unit_in_order}
 use Rattle.world_model.proofs.Destroying.{order_of}
 use Rattle.world_model.proofs.Sound.{IsSound, sound, next_sound}
-use Rattle.heap_plain.specs.Types.{Name, Ref, Kind, Phase, Idle, Marking, Gathering, Collector, Swept, SweepStop, Entry}
+use Rattle.heap_plain.specs.Types.{Name, Kind, Phase, Idle, Marking, Gathering, Collector, Swept, SweepStop, Entry}
 use Rattle.heap_plain.specs.Types.act
 use Rattle.heap_plain.specs.Types.sweep
 use Rattle.heap_plain.specs.declared.life.Life.{Life}
@@ -29,7 +28,7 @@ use Rattle.heap_plain.specs.Listing.{units_at, CanList, ListsUnits}
 use Rattle.heap_plain.specs.Sweeping.{removed_name, removed_names}
 use Rattle.heap_plain.specs.Lists.{Distinct}
 use Rattle.heap_plain.specs.Units.{NamesShow}
-use Rattle.heap_plain.specs.Destroying.{RemovedShow, removal_at, count_left, OrderShows, QueueShows, GatherShows, AreNamed, ReadyAt, gone_world, todo_of, ring_of, still_there, Destroying}
+use Rattle.heap_plain.specs.Destroying.{RemovedShow, removal_at, count_left, OrderShows, GatherShows, AreNamed, ReadyAt, gone_world, todo_of, ring_of, still_there, Destroying}
 use Rattle.heap_plain.specs.Plain.{Shows, IsPlain}
 use Rattle.heap_plain.proofs.WorldFacts.{no_longer, different_distinct, distinct_different}
 use Rattle.heap_plain.proofs.Entries.{Done, does}
@@ -59,11 +58,14 @@ found_at : (names : List (Option Name)) (lives : List Life) (from count : ℕ) (
 found_at names lives from zero n a = absurd a
 found_at names lives from (suc count) n a = go (found_at names lives from count n) (among_append (removed_names names lives from count) _ n a)
   where
-    go : (Among (removed_names names lives from count) n → Found names lives from count n) → Among (removed_names names lives from count) n ⊎ Among (removed_name (life_at lives (from + count)) (name_at names (from + count))) n → Found names lives from (suc count) n
+    go : (Among (removed_names names lives from count) n → Found names lives from count n)
+        → Among (removed_names names lives from count) n ⊎ Among (removed_name (life_at lives (from + count)) (name_at names (from + count))) n
+        → Found names lives from (suc count) n
     go rest (inl b) = let r = rest b in (r.0, r.1, omega (arith, r.2), r.3, r.4)
     go rest (inr b) = let r = one_found names (life_at lives (from + count)) (name_at names (from + count)) n b in (from + count, omega arith, omega arith, r.0, r.1)
 
-at_found : (names : List (Option Name)) (lives : List Life) (from count i : ℕ) (n : Name) → from ≤ i → i < from + count → name_at names i ≡ Some n → life_at lives i ≡ Removed → Among (removed_names names lives from count) n
+at_found : (names : List (Option Name)) (lives : List Life) (from count i : ℕ) (n : Name) → from ≤ i → i < from + count → name_at names i ≡ Some n
+    → life_at lives i ≡ Removed → Among (removed_names names lives from count) n
 at_found names lives from zero i n low high at life = absurd (omega arith)
 at_found names lives from (suc count) i n low high at life = dite (dec_le (from + count) i)
     (λ (b : from + count ≤ i).
@@ -105,7 +107,10 @@ among_name (x ∷ removals) n (inr a) = let r = among_name removals n a in (r.0,
 
 -- ---- no collection gathers
 
-pub refuses_sweep : (z : Sizes) (p : Parts) (h : List Entry) (budget : ℕ) → IsPlain z p h → p.phase ≢ Gathering → Done z p h (h ++ record { pass = Collector; act = act.Sweep budget (record { looked = 0; found = 0; stop = sweep.NotGathering p.phase }) [] } ∷ []) Collector (act.Sweep budget (record { looked = 0; found = 0; stop = sweep.NotGathering p.phase }) [])
+pub refuses_sweep : (z : Sizes) (p : Parts) (h : List Entry) (budget : ℕ) → IsPlain z p h → p.phase ≢ Gathering
+    → Done z p h
+    (h ++ record { pass = Collector; act = act.Sweep budget (record { looked = 0; found = 0; stop = sweep.NotGathering p.phase }) [] } ∷ [])
+    Collector (act.Sweep budget (record { looked = 0; found = 0; stop = sweep.NotGathering p.phase }) [])
 refuses_sweep z p h budget was other =
     let s = was.shows in
     let reply : Swept = record { looked = 0; found = 0; stop = sweep.NotGathering p.phase } in
@@ -118,7 +123,11 @@ refuses_sweep z p h budget was other =
       garbage = s.garbage;
       colours = s.colours;
       stock = s.stock;
-      ends = subst₂ (λ (found : List Name) (looked : ℕ). Destroying z p.phase p.objects p.ends (after h).removals (after h).last_removed found looked (state_of h).collector.asked) (sym (append-nil (after h).found)) (nothing (after h).swept) s.ends;
+      ends =
+          subst₂
+          (λ (found : List Name) (looked : ℕ).
+          Destroying z p.phase p.objects p.ends (after h).removals (after h).last_removed found looked (state_of h).collector.asked)
+          (sym (append-nil (after h).found)) (nothing (after h).swept) s.ends;
     }
   where
     nothing : (looked : ℕ) → looked ≡ looked + 0
@@ -126,7 +135,8 @@ refuses_sweep z p h budget was other =
 
 -- ---- a collection gathers
 
-module _ {z : Sizes} {p : Parts} {h : List Entry} {budget looked count : ℕ} (was : IsPlain z p h) (gathering : p.phase ≡ Gathering) (within : looked ≤ budget) (few : count ≤ looked) (range : p.swept + looked ≤ length p.lives)
+module _ {z : Sizes} {p : Parts} {h : List Entry} {budget looked count : ℕ} (was : IsPlain z p h) (gathering : p.phase ≡ Gathering)
+    (within : looked ≤ budget) (few : count ≤ looked) (range : p.swept + looked ≤ length p.lives)
     (len : length (removed_names p.names p.lives p.swept looked) ≡ count) (few_items : item_count z < 2 ^ 32) where
   abbrev s : Shows z p (state_of h)
   s = was.shows
@@ -274,7 +284,8 @@ module _ {z : Sizes} {p : Parts} {h : List Entry} {budget looked count : ℕ} (w
     early = λ e. omega (arith, s.order.from_few, gathers.none_begun);
   }
 
-  listed_at' : (order : List ℕ) (all : ℕ) → ListsUnits p.lives p.firsts p.sizes p.next p.swept looked p.listed all p.order order → AreNamed p.names (take all order) (members (order_of (after h).last_removed found'))
+  listed_at' : (order : List ℕ) (all : ℕ) → ListsUnits p.lives p.firsts p.sizes p.next p.swept looked p.listed all p.order order
+      → AreNamed p.names (take all order) (members (order_of (after h).last_removed found'))
   listed_at' order all lists = subst (λ (at : List ℕ). AreNamed p.names at (members (order_of (after h).last_removed found'))) (sym lists.order) (named_now looked)
 
   -- the ends after it
@@ -329,8 +340,13 @@ module _ {z : Sizes} {p : Parts} {h : List Entry} {budget looked count : ℕ} (w
   same_length all =
       let names_of : List Name = map (λ (x : Removal). x.name) (after h).removals in
       let len_names : length names_of ≡ length (after h).removals = length-map (after h).removals (λ (x : Removal). x.name) in
-      let up : length found' ≤ length names_of = no_longer found' names_of distinct' (λ n a. let j = found_are' n a in name_among (after h).removals (removal_at p.lives p.polls j.0 n) (s.removed.removed j.0 n j.2 (ap is_gone j.3))) in
-      let down : length names_of ≤ length found' = no_longer names_of found' (different_distinct _ known.destroying.different) (λ n a. let r = among_name (after h).removals n a in subst (λ (x : Name). Among found' x) r.2 (all_found all r.0 r.1)) in
+      let up : length found' ≤ length names_of =
+      no_longer found' names_of distinct'
+      (λ n a. let j = found_are' n a in
+      name_among (after h).removals (removal_at p.lives p.polls j.0 n) (s.removed.removed j.0 n j.2 (ap is_gone j.3))) in
+      let down : length names_of ≤ length found' =
+      no_longer names_of found' (different_distinct _ known.destroying.different)
+      (λ n a. let r = among_name (after h).removals n a in subst (λ (x : Name). Among found' x) r.2 (all_found all r.0 r.1)) in
       omega arith
 
   may_settle : length p.lives ≤ p.swept + looked → MayBy z (state_of h) Collector (act.Sweep budget settled_reply names)
@@ -356,10 +372,14 @@ module _ {z : Sizes} {p : Parts} {h : List Entry} {budget looked count : ℕ} (w
 
   -- the queue of all that was removed
   queue_now : length p.lives ≤ p.swept + looked → IsQueue (gone_world (after h).removals (after h).last_removed found') None (members (order_of (after h).last_removed found')) [] None
-  queue_now all = queue_start (gone_world (after h).removals (after h).last_removed found') (distinct_different _ (distinct_now looked)) known.destroying.units_different known.destroying.different unbegun (in_order_is all)
+  queue_now all =
+      queue_start (gone_world (after h).removals (after h).last_removed found') (distinct_different _ (distinct_now looked))
+      known.destroying.units_different known.destroying.different unbegun (in_order_is all)
 
   pub sweeps_all : {order : List ℕ} {end : ℕ} → ListsUnits p.lives p.firsts p.sizes p.next p.swept looked p.listed end p.order order
-      → length p.lives ≤ p.swept + looked → Done z (record p { gate = record (p.gate) { phase = Idle }; ends = swept_ends order end }) h (h ++ settled_entry ∷ []) Collector (act.Sweep budget settled_reply names)
+      → length p.lives ≤ p.swept + looked
+      → Done z (record p { gate = record (p.gate) { phase = Idle }; ends = swept_ends order end }) h (h ++ settled_entry ∷ []) Collector
+      (act.Sweep budget settled_reply names)
   sweeps_all {order} {end} lists all = does Collector (act.Sweep budget settled_reply names) (act.Sweep budget settled_reply names ∷ []) was (refl, tt) (may_settle all, tt) record {
     gate = record { phase = refl; frames = s.frames };
     objects = s.objects;
@@ -387,7 +407,9 @@ module _ {z : Sizes} {p : Parts} {h : List Entry} {budget looked count : ℕ} (w
         ring = [];
         ready = None;
         todo_at = subst (λ (k : ℕ). AreNamed p.names (todo_of order end k) (members (order_of (after h).last_removed found'))) (sym gathers.none_begun) (listed_at' order end lists);
-        ring_at = subst (λ (b : ℕ). AreNamed p.names (ring_of order b p.from p.kept) []) (sym gathers.none_begun) (subst₂ (λ (f k : ℕ). AreNamed p.names (ring_of order 0 f k) []) none_from none_kept tt);
+        ring_at =
+            subst (λ (b : ℕ). AreNamed p.names (ring_of order b p.from p.kept) []) (sym gathers.none_begun)
+            (subst₂ (λ (f k : ℕ). AreNamed p.names (ring_of order 0 f k) []) none_from none_kept tt);
         ready_at = subst (λ (done : Option ℕ). ReadyAt p.names done None) (sym gathers.none_done) tt;
         queue = subst (λ (last : Option Name). IsQueue (gone_world (after h).removals (after h).last_removed found') last (members (order_of (after h).last_removed found')) [] None)
             (sym (s.none_asked (λ e. let a = gathering in cc))) (queue_now all);

@@ -83,7 +83,10 @@ unit_run z o s earlier marker u head n At marked listed rest [] at moments len d
       earlier = (s.slices marker).moments;
       moments = ap (λ (x : Slicing). s.world ∷ x.moments) (set_at_same s.slices marker _);
       scanned = ap (λ (x : Slicing). x.scanned) (set_at_same s.slices marker _) ∙ ap (λ (v : List Name). v ∷ (s.slices marker).scanned) unit_is;
-      marks = rw (append-nil listed, append-nil rest) (scan_one at.names_show at.units_show at.apart head u n at.stands at.member (subst (λ (xs : List ℕ). Distinct (head ∷ xs)) (append-nil rest) distinct) marks);
+      marks =
+          rw (append-nil listed, append-nil rest)
+          (scan_one at.names_show at.units_show at.apart head u n at.stands at.member
+          (subst (λ (xs : List ℕ). Distinct (head ∷ xs)) (append-nil rest) distinct) marks);
     }
   where
     marked_target : (v : List Name) → IsUnit (graph s.world) v → Refers (graph s.world) u v → is_marked s.marks v ≡ true
@@ -104,14 +107,18 @@ unit_run z o s earlier marker u head n At marked listed rest (x ∷ heads) at mo
     let inside : x < length marked = omega (arith, subst (λ (y : ℕ). y < item_count z) r.2 (at.units_show.in_range r.0)) in
     let unit_is : unit_of s.world m ≡ v = own_unit s.world at.apart v m stands.among member.2 in
     let target : has v lead.0 ≡ true = stands.whole r.0 lead.0 lead.1 r.2 in
-    let refers : Refers (graph s.world) u (unit_of s.world m) = subst (λ (y : List Name). Refers (graph s.world) u y) (sym unit_is) (record { from = lead.2; slot = lead.3; to = lead.0; cell = lead.4; member = lead.5; target = target }) in
+    let refers : Refers (graph s.world) u (unit_of s.world m) =
+    subst (λ (y : List Name). Refers (graph s.world) u y) (sym unit_is)
+    (record { from = lead.2; slot = lead.3; to = lead.0; cell = lead.4; member = lead.5; target = target }) in
     let own_is : unit_of s.world n ≡ u = own_unit s.world at.apart u n at.stands.among at.member in
     let own = marks.grey_units head (inl refl) in
     let same : own.0 ≡ u = one_unit at.apart at.units_show head own.0 u own.1 at.stands in
     let grey : is_grey s.marks u ≡ true = subst (λ (y : List Name). is_grey s.marks y ≡ true) same own.2 in
     let tail = unit_run z o (next s entry) (s.slices marker).moments marker u head n At (set marked x true) (listed ++ x ∷ []) (rest ++ x ∷ []) heads at
     (ap (λ (y : Slicing). s.world ∷ y.moments) (set_at_same s.slices marker _)) (length-set marked x true ∙ len)
-    (subst (λ (xs : List ℕ). Distinct (head ∷ xs)) (sym (append_assoc rest (x ∷ []) heads)) distinct) (mark_one at.names_show at.units_show at.apart x v m stands member.2 can.1 inside (sk v stands.among) marks) can.2 (λ x a e. kept_still x s.marks.kept m (sk x a e)) each in
+    (subst (λ (xs : List ℕ). Distinct (head ∷ xs)) (sym (append_assoc rest (x ∷ []) heads)) distinct)
+    (mark_one at.names_show at.units_show at.apart x v m stands member.2 can.1 inside (sk v stands.among) marks) can.2
+    (λ x a e. kept_still x s.marks.kept m (sk x a e)) each in
     let may : MayBy z s (Marker marker) (act.Kept m) = record {
       in_range = at.range;
       slice = at.opened;
@@ -123,7 +130,8 @@ unit_run z o s earlier marker u head n At marked listed rest (x ∷ heads) at mo
         refers = subst (λ (ms : List World). AtSomeMoment ms (λ w. Refers (graph w) u (unit_of s.world m))) (sym moments) (inl refers);
       };
     } in
-    let whole : UnitRun z o (all_set marked (x ∷ heads)) ((listed ++ x ∷ []) ++ heads) ((rest ++ x ∷ []) ++ heads) marker u s (act.Kept m ∷ (map act.Kept (names_at o.names heads) ++ act.Scanned n ∷ [])) = record {
+    let whole : UnitRun z o (all_set marked (x ∷ heads)) ((listed ++ x ∷ []) ++ heads) ((rest ++ x ∷ []) ++ heads) marker u s
+    (act.Kept m ∷ (map act.Kept (names_at o.names heads) ++ act.Scanned n ∷ [])) = record {
       legal = (may, tail.legal);
       needed = (scanned_at_end s.world m n (names_at o.names heads) (subst (λ (y : List Name). Refers (graph s.world) y (unit_of s.world m)) (sym own_is) refers), tail.needed);
       world = tail.world;
@@ -133,6 +141,15 @@ unit_run z o s earlier marker u head n At marked listed rest (x ∷ heads) at mo
       scanned = tail.scanned ∙ ap (λ (y : Slicing). u ∷ y.scanned) (set_at_same s.slices marker _);
       marks = tail.marks;
     } in
-    subst (λ (q : Option Name). UnitRun z o (all_set marked (x ∷ heads)) (listed ++ x ∷ heads) (rest ++ x ∷ heads) marker u s (map act.Kept (option_to_list q ++ names_at o.names heads) ++ act.Scanned n ∷ [])) (sym member.1.name)
-    (subst (λ (xs : List ℕ). UnitRun z o (all_set marked (x ∷ heads)) xs (rest ++ x ∷ heads) marker u s (act.Kept m ∷ (map act.Kept (names_at o.names heads) ++ act.Scanned n ∷ []))) (append_assoc listed (x ∷ []) heads)
-    (subst (λ (xs : List ℕ). UnitRun z o (all_set marked (x ∷ heads)) ((listed ++ x ∷ []) ++ heads) xs marker u s (act.Kept m ∷ (map act.Kept (names_at o.names heads) ++ act.Scanned n ∷ []))) (append_assoc rest (x ∷ []) heads) whole))
+    subst
+    (λ (q : Option Name).
+    UnitRun z o (all_set marked (x ∷ heads)) (listed ++ x ∷ heads) (rest ++ x ∷ heads) marker u s
+    (map act.Kept (option_to_list q ++ names_at o.names heads) ++ act.Scanned n ∷ [])) (sym member.1.name)
+    (subst
+    (λ (xs : List ℕ).
+    UnitRun z o (all_set marked (x ∷ heads)) xs (rest ++ x ∷ heads) marker u s
+    (act.Kept m ∷ (map act.Kept (names_at o.names heads) ++ act.Scanned n ∷ []))) (append_assoc listed (x ∷ []) heads)
+    (subst
+    (λ (xs : List ℕ).
+    UnitRun z o (all_set marked (x ∷ heads)) ((listed ++ x ∷ []) ++ heads) xs marker u s
+    (act.Kept m ∷ (map act.Kept (names_at o.names heads) ++ act.Scanned n ∷ []))) (append_assoc rest (x ∷ []) heads) whole))

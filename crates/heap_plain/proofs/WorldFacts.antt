@@ -1,11 +1,11 @@
 -- Facts of the world's definitions that any engine needs.
-use Rattle.std.proofs.Common.{◌≡◌, ◌≢◌, ℕ, ◌+◌, ◌≤◌, refl, sym, subst, ap, ◌∙◌, inl, inr, arith, Bool, cond, true, false, not, ◌||◌, ◌==◌, List, [], ◌∷◌, ◌++◌, length, ◌⊎◌, filter, length-append, count_by}
+use Rattle.std.proofs.Common.{◌≡◌, ◌≢◌, ℕ, ◌+◌, ◌≤◌, refl, sym, subst, ap, ◌∙◌, inl, inr, arith, Bool, cond, true, false, not, ◌||◌, ◌==◌, List, [], ◌∷◌, ◌++◌, length, filter, length-append, count_by}
 use Rattle.std.specs.List.{list_any, sum_by}
 use Rattle.std.proofs.lemmas.Bool.{eqb-true, eq-eqb, ne_eqb, or_parts, and_from}
 use Rattle.std.proofs.lemmas.List.Sums.{length-filter}
 use Rattle.std.proofs.lemmas.List.Filters.{sum_by-filter_both}
 use Rattle.world_model.specs.NameLists.{same_name, same_pass, has, set_at, all_different}
-use Rattle.world_model.specs.State.{State, beginning}
+use Rattle.world_model.specs.State.{beginning}
 use Rattle.world_model.specs.Next.{run}
 use Rattle.world_model.specs.Histories.{state_of}
 use Rattle.world_model.proofs.Joins.{run-append}
@@ -119,7 +119,9 @@ pub no_longer : {A : Type 0} (xs ys : List A) → Distinct xs → ((x : A) → A
 no_longer [] ys d f = omega arith
 no_longer (x ∷ xs) ys d f =
     let s = split_at x ys (f x (inl refl)) in
-    let rest : length xs ≤ length (s.0 ++ s.1) = no_longer xs (s.0 ++ s.1) d.1 (λ y h. among_without s.0 s.1 x y (subst (λ (zs : List _). Among zs y) s.2 (f y (inr h))) (λ e. d.0 (subst (λ z. Among xs z) (sym e) h))) in
+    let rest : length xs ≤ length (s.0 ++ s.1) =
+    no_longer xs (s.0 ++ s.1) d.1
+    (λ y h. among_without s.0 s.1 x y (subst (λ (zs : List _). Among zs y) s.2 (f y (inr h))) (λ e. d.0 (subst (λ z. Among xs z) (sym e) h))) in
     let len : length ys ≡ length (s.0 ++ x ∷ s.1) = ap (λ (zs : List _). length zs) s.2 in
     let a = length-append s.0 s.1 in
     let b = length-append s.0 (x ∷ s.1) in

@@ -23,7 +23,8 @@ Aims names lives (Some t) (Some n) = LivesAt names lives t n
 Aims names lives _ _ = ⊥
 
 -- The cells of the living objects. A cell beyond the reference slots of an object names nothing, and the plain cells of an object that is not made have 0.
-pub record CellsShow (z : Sizes) (names : List (Option Name)) (lives : List Life) (stored : List Kind) (targets : List (Option ℕ)) (plains : List ℕ) (kinds : ℕ → List Kind) (cell : Name → ℕ → Option Name) (plain : Name → ℕ → ℕ) : Type 0 where
+pub record CellsShow (z : Sizes) (names : List (Option Name)) (lives : List Life) (stored : List Kind) (targets : List (Option ℕ)) (plains : List ℕ)
+    (kinds : ℕ → List Kind) (cell : Name → ℕ → Option Name) (plain : Name → ℕ → ℕ) : Type 0 where
   pub targets_len : length targets ≡ item_count z * z.slots
   pub plains_len : length plains ≡ item_count z * z.slots
   pub in_range : (i slot t : ℕ) → slot < z.slots → target_at z.slots targets i slot ≡ Some t → t < item_count z

@@ -1,7 +1,7 @@
 -- The removed objects: how far their destruction is, and the queue of it.
-use Rattle.std.specs.Prelude.{◌≡◌, ◌≢◌, ℕ, ◌+◌, ◌<◌, ◌≤◌, ◌&&◌, not, Bool, true, List, [], ◌∷◌, ◌++◌, length, get_or, take, drop, count_by, Option, Some, None}
+use Rattle.std.specs.Prelude.{◌≡◌, ◌≢◌, ℕ, ◌<◌, ◌≤◌, ◌&&◌, not, Bool, true, List, [], ◌∷◌, ◌++◌, length, get_or, take, drop, count_by, Option, Some, None}
 use Rattle.std.specs.List.{list_any}
-use Rattle.heap_plain.specs.Types.{Name, Phase, Idle, Marking, Gathering}
+use Rattle.heap_plain.specs.Types.{Name, Phase, Idle, Gathering}
 use Rattle.world_model.specs.Sizes.{Sizes, item_count}
 use Rattle.world_model.specs.NameLists.{same_name, has, members}
 use Rattle.world_model.specs.World.{World, empty_world, Removal, Removed as AtRemoved, Finished as AtFinished, has_stage, destruction_order}
@@ -27,7 +27,8 @@ removal_at lives polls i n = record { name = n; stage = stage_of (life_at lives 
 abbrev pub removal_of : Name → Removal
 removal_of n = record { name = n; stage = AtRemoved; polls = 0 }
 
-pub record RemovedShow (z : Sizes) (names : List (Option Name)) (lives : List Life) (polls : List ℕ) (left swept : ℕ) (phase : Phase) (removals : List Removal) (found : List Name) (looked : ℕ) : Type 0 where
+pub record RemovedShow (z : Sizes) (names : List (Option Name)) (lives : List Life) (polls : List ℕ) (left swept : ℕ) (phase : Phase)
+    (removals : List Removal) (found : List Name) (looked : ℕ) : Type 0 where
   pub swept_is : swept ≡ looked
   pub swept_few : swept ≤ item_count z
   pub polls_len : length polls ≡ item_count z
@@ -104,7 +105,8 @@ pub record OrderShows (z : Sizes) (order : List ℕ) (listed begun from kept : �
   pub early : begun < listed → from ≡ 0
 
 -- The queue, while removed objects are being destroyed.
-pub record QueueShows (names : List (Option Name)) (order : List ℕ) (listed begun from kept : ℕ) (done : Option ℕ) (removals : List Removal) (units : List (List Name)) (found : List Name) (asked : Option Name) : Type 0 where
+pub record QueueShows (names : List (Option Name)) (order : List ℕ) (listed begun from kept : ℕ) (done : Option ℕ) (removals : List Removal)
+    (units : List (List Name)) (found : List Name) (asked : Option Name) : Type 0 where
   pub todo : List Name
   pub ring : List Name
   pub ready : Option Name

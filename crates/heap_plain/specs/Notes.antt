@@ -49,7 +49,9 @@ all_set bits (i ∷ rest) = all_set (set bits i true) rest
 
 -- one root: where it is set and its unit is white, the unit is marked
 pub record KeepsOne (names : List (Option Name)) (head : ℕ) (on : Bool) (bits bits' : List Bool) (work work' : List ℕ) (pushed pushed' : ℕ) (old new : List Entry) : Type 0 where
-  pub white : (on && not (get_or bits head false)) ≡ true → (bits' ≡ set bits head true) × (work' ≡ set work pushed head) × (pushed' ≡ pushed + 1) × (new ≡ old ++ by Collector (map act.Kept (names_at names (head ∷ []))))
+  pub white : (on && not (get_or bits head false)) ≡ true
+      → (bits' ≡ set bits head true) × (work' ≡ set work pushed head) × (pushed' ≡ pushed + 1)
+      × (new ≡ old ++ by Collector (map act.Kept (names_at names (head ∷ []))))
   pub other : (on && not (get_or bits head false)) ≡ false → (bits' ≡ bits) × (work' ≡ work) × (pushed' ≡ pushed) × (new ≡ old)
 
 -- each of these units has a root bit among the first count, and was white when it was marked

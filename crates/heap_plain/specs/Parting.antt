@@ -1,9 +1,8 @@
 -- Taking a unit apart.
-use Rattle.std.specs.Prelude.{◌≡◌, ◌≢◌, ℕ, ◌<◌, ◌≤◌, true, List, [], ◌++◌, map, length, get_or}
+use Rattle.std.specs.Prelude.{◌≡◌, ◌≢◌, ℕ, ◌<◌, ◌≤◌, true, List, ◌++◌, map, length, get_or}
 use Rattle.world_model.specs.Sizes.{Sizes}
 use Rattle.world_model.specs.NameLists.{has}
 use Rattle.world_model.specs.World.{unit_of}
-use Rattle.world_model.specs.State.{State}
 use Rattle.world_model.specs.Histories.{Legal, after, state_of}
 use Rattle.world_model.specs.Calls.{by}
 use Rattle.world_model.proofs.Answering.{IsMidway}

@@ -57,7 +57,8 @@ CanShade firsts At bits [] = Unit {0}
 CanShade firsts At bits (head ∷ rest) = ((t : ℕ) × At t × (first_at firsts t ≡ head)) × (get_or bits head false ≡ false) × CanShade firsts At (set bits head true) rest
 
 -- The units of the objects at these indexes: those that were white are marked, noted and put on the worklist.
-pub record Shades (names : List (Option Name)) (firsts : List ℕ) (At : ℕ → Type 0) (marker : ℕ) (marked marked' : List Bool) (work work' : List ℕ) (pushed pushed' : ℕ) (old new : List Entry) : Type 0 where
+pub record Shades (names : List (Option Name)) (firsts : List ℕ) (At : ℕ → Type 0) (marker : ℕ) (marked marked' : List Bool) (work work' : List ℕ)
+    (pushed pushed' : ℕ) (old new : List Entry) : Type 0 where
   pub heads : List ℕ
   pub listed : take pushed' work' ≡ take pushed work ++ heads
   pub bits : marked' ≡ all_set marked heads

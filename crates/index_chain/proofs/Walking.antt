@@ -1,6 +1,5 @@
 -- Walks, and what stays of them.
-use Rattle.std.proofs.Common.{◌≡◌, ℕ, zero, suc, add-one, ◌+◌, ◌-◌, ◌==◌, ◌<◌, ◌≤◌, Bool, true, false, List, [], ◌∷◌, ◌++◌, length, take, drop, refl,
-    sym, ap, ◌∙◌, subst, arith, Option, Some, None, slice_get, get_or, drop-cons, IfSome, IsTrue, if◌then◌else◌}
+use Rattle.std.proofs.Common.{◌≡◌, ℕ, zero, suc, add-one, ◌+◌, ◌-◌, ◌==◌, ◌<◌, ◌≤◌, Bool, true, false, List, [], ◌∷◌, ◌++◌, length, take, drop, refl, sym, ap, ◌∙◌, subst, arith, Option, Some, None, slice_get, get_or, drop-cons, IfSome, IsTrue, if◌then◌else◌}
 use Rattle.std.specs.Prelude.{option_and_then}
 use Rattle.std.specs.Option.{is_some}
 use Rattle.std.specs.List.{AllByRecursion}
@@ -65,9 +64,9 @@ pub pushed : (words : Words) (chain : Chain) (i : ℕ) → has (items words chai
 unfolding walk
 pushed words chain i out =
     rw add-one
-      (ap (λ is. i ∷ is)
-        (ap (walk (with_next words i chain.first) chain.count) (next_written words i chain.first)
-          ∙ walk_outside words i chain.first chain.count chain.first out))
+    (ap (λ is. i ∷ is)
+    (ap (walk (with_next words i chain.first) chain.count) (next_written words i chain.first)
+    ∙ walk_outside words i chain.first chain.count chain.first out))
 
 pub pushed_whole : (words : Words) (chain : Chain) (i : ℕ) → IsTold words i → has (items words chain) i ≡ false → IsChain words chain
     → IsChain (with_next words i chain.first) (record { first = Some i; count = chain.count + 1 })
@@ -199,8 +198,8 @@ module _ (words : Words) (front back : Chain) (some : 0 < front.count) (one : Is
           let whole = one.whole in
           let len : length (walk words (suc m) front.first) ≡ m + 1 = ap length (sym is) ∙ omega arith in
           let on =
-              walk_both words m back.count (front.count + back.count) front.first back.first (omega arith) len (subst AreDistinct is one.distinct)
-                (subst (λ xs. AreApart xs (items words back)) is apart) in
+          walk_both words m back.count (front.count + back.count) front.first back.first (omega arith) len (subst AreDistinct is one.distinct)
+          (subst (λ xs. AreApart xs (items words back)) is apart) in
           subst (λ xs. walk (with_end words xs back.first) (front.count + back.count) front.first ≡ xs ++ items words back) (sym is) on
 
   pub both_whole : IsChain (with_end words (items words front) back.first) (record { first = front.first; count = front.count + back.count })
@@ -210,14 +209,14 @@ module _ (words : Words) (front back : Chain) (some : 0 < front.count) (one : Is
       let a = one.whole in
       let b = two.whole in
       let k : length (items (with_end words (items words front) back.first) (record { first = front.first; count = front.count + back.count }))
-            ≡ length (items words front ++ items words back) = ap length is in
+      ≡ length (items words front ++ items words back) = ap length is in
       record {
         whole = omega arith;
         told =
             subst (AllByRecursion (IsTold (with_end words (items words front) back.first))) (sym is)
-              (all_append (IsTold (with_end words (items words front) back.first)) (items words front) (items words back)
-                (told_end words (items words front) back.first (items words front) one.told)
-                (told_end words (items words front) back.first (items words back) two.told));
+            (all_append (IsTold (with_end words (items words front) back.first)) (items words front) (items words back)
+            (told_end words (items words front) back.first (items words front) one.told)
+            (told_end words (items words front) back.first (items words back) two.told));
         distinct = subst AreDistinct (sym is) (distinct_append (items words front) (items words back) one.distinct two.distinct apart);
       }
 

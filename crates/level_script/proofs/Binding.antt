@@ -195,7 +195,9 @@ bound_more opened lane var name = go (bytes_eq name var) refl
 
     other : bytes_eq name var ≡ false → (o : Option ℕ) → number_of_name lane.names name ≡ o → is_some (if_bound (with_number lane.bound k) o) ≡ is_some (if_bound lane.bound o)
     other e None is = refl
-    other e (Some i) is = bound_some (with_number lane.bound k) (Some i) i refl ∙ has_old lane.bound k i (eq_flip i k (other_place lane.names var name i e is)) ∙ sym (bound_some lane.bound (Some i) i refl)
+    other e (Some i) is =
+        bound_some (with_number lane.bound k) (Some i) i refl ∙ has_old lane.bound k i (eq_flip i k (other_place lane.names var name i e is))
+        ∙ sym (bound_some lane.bound (Some i) i refl)
 
     go : (b : Bool) → bytes_eq name var ≡ b → is_some (if_bound (with_number lane.bound k) (number_of_name (with_name lane.names var) name)) ≡ (is_bound lane name || b)
     go true e =
@@ -361,10 +363,13 @@ said_bound index name r was = (was && not (says_of index is_close r)) || says_of
 
 -- a lane of the context after a line was there before, and what is bound in it is what the line leaves
 abbrev Leaves : ℕ → List ℕ → Result Said Cause → Context → Context → Type 0
-Leaves index name r c next = (left : LaneNames) → slice_get next.lanes index ≡ Some left → (lane : LaneNames) × (slice_get c.lanes index ≡ Some lane) × (is_bound left name ≡ said_bound index name r (is_bound lane name))
+Leaves index name r c next =
+    (left : LaneNames) → slice_get next.lanes index ≡ Some left
+    → (lane : LaneNames) × (slice_get c.lanes index ≡ Some lane) × (is_bound left name ≡ said_bound index name r (is_bound lane name))
 
 -- the lanes are what they were
-leaves_same : (index : ℕ) (name : List ℕ) (r : Result Said Cause) (c next : Context) → says_of index is_close r ≡ false → says_of index (binds_name name) r ≡ false → next.lanes ≡ c.lanes → Leaves index name r c next
+leaves_same : (index : ℕ) (name : List ℕ) (r : Result Said Cause) (c next : Context) → says_of index is_close r ≡ false
+    → says_of index (binds_name name) r ≡ false → next.lanes ≡ c.lanes → Leaves index name r c next
 leaves_same index name r c next no_close no_bind same left e =
     (left, sym (ap (λ (ls : List LaneNames). slice_get ls index) same) ∙ e, kept (is_bound left name) ∙ (λ i. (is_bound left name && not (sym no_close i)) || sym no_bind i))
 
@@ -376,7 +381,8 @@ with_named_leaves : (c next : Context) (name : List ℕ) (r : Result Schema Sche
 with_named_leaves c next name (Ok classes) e = sym (ap (λ (d : Context). d.lanes) (ok_same e))
 with_named_leaves c next name (Err why) e = err_ok e
 
-field_leaves : (c next : Context) (number : ℕ) (name : List ℕ) (count : ℕ) (class : Option ClassId) (what : Option FieldKind) → field_known number c name count class what ≡ Ok next → next.lanes ≡ c.lanes
+field_leaves : (c next : Context) (number : ℕ) (name : List ℕ) (count : ℕ) (class : Option ClassId) (what : Option FieldKind)
+    → field_known number c name count class what ≡ Ok next → next.lanes ≡ c.lanes
 field_leaves c next number name count None what e = err_ok e
 field_leaves c next number name count (Some class) None e = err_ok e
 field_leaves c next number name count (Some class) (Some what) e = with_named_leaves c next name (field_added c.classes class (record { name = name; line = number; kind = what; count = count })) e
@@ -389,7 +395,8 @@ counted_leaves c next number class name what (Some count) e = field_leaves c nex
 eq_other : (i k : ℕ) → (i ≡ k → ⊥) → (i == k) ≡ false
 eq_other i k ne = false_from_ne_true _ (λ e. ne (eqb-true i k e))
 
-step_leaves : (index : ℕ) (name : List ℕ) (number at : ℕ) (what : Does) (c next : Context) (lane : LaneNames) (r : Result (LaneNames × LaneCmd) Cause) → slice_get c.lanes at ≡ Some lane → lane_step c.classes.classes c.fields lane what ≡ r
+step_leaves : (index : ℕ) (name : List ℕ) (number at : ℕ) (what : Does) (c next : Context) (lane : LaneNames) (r : Result (LaneNames × LaneCmd) Cause)
+    → slice_get c.lanes at ≡ Some lane → lane_step c.classes.classes c.fields lane what ≡ r
     → with_lane number c at r ≡ Ok next → Leaves index name (Ok (said.Lane (Some at) what)) c next
 step_leaves index name number at what c next lane (Err why) is step e = err_ok e
 step_leaves index name number at what c next lane (Ok (now, command)) is step e = λ left there.
@@ -408,11 +415,13 @@ step_leaves index name number at what c next lane (Ok (now, command)) is step e 
         let apart : (at == index) ≡ false = eq_other at index other in
         (left, stays, kept (is_bound left name) ∙ (λ i. (is_bound left name && not (sym apart i && is_close what)) || (sym apart i && binds_name name what)))
 
-lane_leaves : (index : ℕ) (name : List ℕ) (number at : ℕ) (what : Does) (c next : Context) (o : Option LaneNames) → slice_get c.lanes at ≡ o → lane_at number c at o what ≡ Ok next → Leaves index name (Ok (said.Lane (Some at) what)) c next
+lane_leaves : (index : ℕ) (name : List ℕ) (number at : ℕ) (what : Does) (c next : Context) (o : Option LaneNames) → slice_get c.lanes at ≡ o
+    → lane_at number c at o what ≡ Ok next → Leaves index name (Ok (said.Lane (Some at) what)) c next
 lane_leaves index name number at what c next None is e = err_ok e
 lane_leaves index name number at what c next (Some lane) is e = step_leaves index name number at what c next lane (lane_step c.classes.classes c.fields lane what) is refl e
 
-index_leaves : (index : ℕ) (name : List ℕ) (number : ℕ) (what : Does) (c next : Context) (o : Option ℕ) → lane_of number c (lane_index (length c.lanes) o) what ≡ Ok next → Leaves index name (Ok (said.Lane o what)) c next
+index_leaves : (index : ℕ) (name : List ℕ) (number : ℕ) (what : Does) (c next : Context) (o : Option ℕ)
+    → lane_of number c (lane_index (length c.lanes) o) what ≡ Ok next → Leaves index name (Ok (said.Lane o what)) c next
 index_leaves index name number what c next None e = err_ok e
 index_leaves index name number what c next (Some at) e = go (nat_lt at (length c.lanes)) e
   where
@@ -423,8 +432,11 @@ index_leaves index name number what c next (Some at) e = go (nat_lt at (length c
 said_leaves : (index : ℕ) (name : List ℕ) (number : ℕ) (c next : Context) (r : Result Said Cause) → if_said number c r ≡ Ok next → Leaves index name r c next
 said_leaves index name number c next (Err why) e = err_ok e
 said_leaves index name number c next (Ok said.Nothing) e = leaves_same index name (Ok said.Nothing) c next refl refl (sym (ap (λ (d : Context). d.lanes) (ok_same e)))
-said_leaves index name number c next (Ok (said.Class class parent)) e = leaves_same index name (Ok (said.Class class parent)) c next refl refl (with_classes_leaves c next (added c.classes number class parent) e)
-said_leaves index name number c next (Ok (said.Field class field what count)) e = leaves_same index name (Ok (said.Field class field what count)) c next refl refl (counted_leaves c next number class field what (elements_in count) e)
+said_leaves index name number c next (Ok (said.Class class parent)) e =
+    leaves_same index name (Ok (said.Class class parent)) c next refl refl (with_classes_leaves c next (added c.classes number class parent) e)
+said_leaves index name number c next (Ok (said.Field class field what count)) e =
+    leaves_same index name (Ok (said.Field class field what count)) c next refl refl
+    (counted_leaves c next number class field what (elements_in count) e)
 said_leaves index name number c next (Ok said.Full) e = leaves_same index name (Ok said.Full) c next refl refl (sym (ap (λ (d : Context). d.lanes) (ok_same e)))
 said_leaves index name number c next (Ok (said.Lane lane what)) e = index_leaves index name number what c next lane e
 
@@ -447,7 +459,8 @@ lines_bound index name was [] = was
 lines_bound index name was (line ∷ lines) = lines_bound index name (line_bound index name line was) lines
 
 lines_leave : (index : ℕ) (name : List ℕ) (lines : List (List ℕ)) (number : ℕ) (c last : Context) → read_from number c lines ≡ Ok last
-    → (left : LaneNames) → slice_get last.lanes index ≡ Some left → (lane : LaneNames) × (slice_get c.lanes index ≡ Some lane) × (is_bound left name ≡ lines_bound index name (is_bound lane name) lines)
+    → (left : LaneNames) → slice_get last.lanes index ≡ Some left
+    → (lane : LaneNames) × (slice_get c.lanes index ≡ Some lane) × (is_bound left name ≡ lines_bound index name (is_bound lane name) lines)
 unfolding read_from lines_bound
 lines_leave index name [] number c last e left there = (left, ap (λ (d : Context). slice_get d.lanes index) (ok_same e) ∙ there, refl)
 lines_leave index name (line ∷ lines) number c last e left there =
@@ -469,7 +482,8 @@ unfolding lines_bound
 bound_from index name [] was e = inl (e, refl)
 bound_from index name (line ∷ lines) was e = go (bound_from index name lines (line_bound index name line was) e)
   where
-    by : ((was && not (line_of index is_close line)) ≡ true) ⊎ (line_of index (binds_name name) line ≡ true) → list_all (λ l. not (line_of index is_close l)) lines ≡ true → StillOr index name was (line ∷ lines)
+    by : ((was && not (line_of index is_close line)) ≡ true) ⊎ (line_of index (binds_name name) line ≡ true)
+        → list_all (λ l. not (line_of index is_close l)) lines ≡ true → StillOr index name was (line ∷ lines)
     by (inl h) rest = let parts = both was (not (line_of index is_close line)) h in inl (parts.0, and_both _ _ parts.1 rest)
     by (inr h) rest = inr (record { front = []; line = line; behind = lines; are = refl; binds = h; kept = rest })
 
@@ -485,7 +499,8 @@ stays_bound index name (line ∷ lines) h =
     let parts = both (not (line_of index is_close line)) _ h in
     ap (λ (b : Bool). lines_bound index name (b || line_of index (binds_name name) line) lines) parts.0 ∙ stays_bound index name lines parts.1
 
-bound_to : (index : ℕ) (name : List ℕ) (front : List (List ℕ)) (line : List ℕ) (behind : List (List ℕ)) (was : Bool) → line_of index (binds_name name) line ≡ true → list_all (λ l. not (line_of index is_close l)) behind ≡ true
+bound_to : (index : ℕ) (name : List ℕ) (front : List (List ℕ)) (line : List ℕ) (behind : List (List ℕ)) (was : Bool)
+    → line_of index (binds_name name) line ≡ true → list_all (λ l. not (line_of index is_close l)) behind ≡ true
     → lines_bound index name was (front ++ line ∷ behind) ≡ true
 unfolding lines_bound
 bound_to index name [] line behind was binds still = ap (λ (b : Bool). lines_bound index name b behind) (last (was && not (line_of index is_close line)) _ binds) ∙ stays_bound index name behind still

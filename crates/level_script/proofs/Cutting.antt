@@ -37,7 +37,9 @@ at_none p xs e =
 -- ---- parts
 
 -- one more byte that does not pass
-whole_step : (p : ℕ → Bool) (x : ℕ) (xs : List ℕ) (b : Bool) → (length xs ≤ prefix_len (λ y. not (p y)) xs → slice_split p xs ≡ xs ∷ []) → length (x ∷ xs) ≤ cond (not b) (1 + prefix_len (λ y. not (p y)) xs) 0 → cond b ([] ∷ slice_split p xs) (onto_first x (slice_split p xs)) ≡ (x ∷ xs) ∷ []
+whole_step : (p : ℕ → Bool) (x : ℕ) (xs : List ℕ) (b : Bool) → (length xs ≤ prefix_len (λ y. not (p y)) xs → slice_split p xs ≡ xs ∷ [])
+    → length (x ∷ xs) ≤ cond (not b) (1 + prefix_len (λ y. not (p y)) xs) 0
+    → cond b ([] ∷ slice_split p xs) (onto_first x (slice_split p xs)) ≡ (x ∷ xs) ∷ []
 whole_step p x xs true ih h = absurd (omega (arith, h))
 whole_step p x xs false ih h = ap (onto_first x) (ih (omega (arith, h)))
 

@@ -26,7 +26,8 @@ err_same : {A E : Type 0} {a b : E} → ◌≡◌ {A = Result A E} (Err a) (Err 
 err_same {A} {E} {a} {b} e = ap (λ (r : Result A E). elim r [ Ok x ↦ a | Err y ↦ y ]) e
 
 -- a line that is read comes before the fault of those after it
-fails_later : (number : ℕ) (c next : Context) (line : List ℕ) (lines : List (List ℕ)) (fault : ScriptErr) → line_turn number c line ≡ Ok next → FailsAt (number + 1) next lines fault → FailsAt number c (line ∷ lines) fault
+fails_later : (number : ℕ) (c next : Context) (line : List ℕ) (lines : List (List ℕ)) (fault : ScriptErr) → line_turn number c line ≡ Ok next
+    → FailsAt (number + 1) next lines fault → FailsAt number c (line ∷ lines) fault
 unfolding read_from
 fails_later number c next line lines fault turned h = record {
   place = suc h.place;
@@ -38,7 +39,8 @@ fails_later number c next line lines fault turned h = record {
 }
 
 -- the first line has it
-fails_now : (number : ℕ) (c : Context) (line : List ℕ) (lines : List (List ℕ)) (fault : ScriptErr) (why : Cause) → line_turn number c line ≡ Err why → fault_at number why ≡ fault → FailsAt number c (line ∷ lines) fault
+fails_now : (number : ℕ) (c : Context) (line : List ℕ) (lines : List (List ℕ)) (fault : ScriptErr) (why : Cause) → line_turn number c line ≡ Err why
+    → fault_at number why ≡ fault → FailsAt number c (line ∷ lines) fault
 unfolding read_from
 fails_now number c line lines fault why turned is = subst (FailsAt number c (line ∷ lines)) is (record {
   place = 0;
@@ -55,7 +57,9 @@ unfolding read_from
 fails [] number c fault e = absurd cc
 fails (line ∷ lines) number c fault e = go (line_turn number c line) refl e (λ next. fails lines (number + 1) next fault)
   where
-    go : (r : Result Context Cause) → line_turn number c line ≡ r → read_on number r (λ n. read_from (number + 1) n lines) ≡ Err fault → ((next : Context) → read_from (number + 1) next lines ≡ Err fault → FailsAt (number + 1) next lines fault) → FailsAt number c (line ∷ lines) fault
+    go : (r : Result Context Cause) → line_turn number c line ≡ r → read_on number r (λ n. read_from (number + 1) n lines) ≡ Err fault
+        → ((next : Context) → read_from (number + 1) next lines ≡ Err fault → FailsAt (number + 1) next lines fault)
+        → FailsAt number c (line ∷ lines) fault
     go (Ok next) turned e later = fails_later number c next line lines fault turned (later next e)
     go (Err why) turned e later = fails_now number c line lines fault why turned (err_same e)
 
@@ -64,7 +68,9 @@ ok_same : {A E : Type 0} {a b : A} → ◌≡◌ {A = Result A E} (Ok a) (Ok b) 
 ok_same {A} {E} {a} {b} e = ap (λ (r : Result A E). elim r [ Ok x ↦ x | Err y ↦ a ]) e
 
 -- lines of which one has it have it
-has : (lines : List (List ℕ)) (place number at : ℕ) (c before : Context) (why : Cause) → at ≡ number + place → place < length lines → read_from number c (take place lines) ≡ Ok before → line_turn at before (slice_index_or lines place []) ≡ Err why → read_from number c lines ≡ Err (fault_at at why)
+has : (lines : List (List ℕ)) (place number at : ℕ) (c before : Context) (why : Cause) → at ≡ number + place → place < length lines
+    → read_from number c (take place lines) ≡ Ok before → line_turn at before (slice_index_or lines place []) ≡ Err why
+    → read_from number c lines ≡ Err (fault_at at why)
 unfolding read_from
 has [] place number at c before why is there read faulty = absurd (omega arith)
 has (line ∷ lines) zero number at c before why is there read faulty =
@@ -75,7 +81,9 @@ has (line ∷ lines) zero number at c before why is there read faulty =
 has (line ∷ lines) (suc place) number at c before why is there read faulty =
     go (line_turn number c line) refl read (λ next read. has lines place (number + 1) at next before why (omega arith) (omega arith) read faulty)
   where
-    go : (r : Result Context Cause) → line_turn number c line ≡ r → read_on number r (λ n. read_from (number + 1) n (take place lines)) ≡ Ok before → ((next : Context) → read_from (number + 1) next (take place lines) ≡ Ok before → read_from (number + 1) next lines ≡ Err (fault_at at why)) → read_on number (line_turn number c line) (λ n. read_from (number + 1) n lines) ≡ Err (fault_at at why)
+    go : (r : Result Context Cause) → line_turn number c line ≡ r → read_on number r (λ n. read_from (number + 1) n (take place lines)) ≡ Ok before
+        → ((next : Context) → read_from (number + 1) next (take place lines) ≡ Ok before → read_from (number + 1) next lines ≡ Err (fault_at at why))
+        → read_on number (line_turn number c line) (λ n. read_from (number + 1) n lines) ≡ Err (fault_at at why)
     go (Ok next) turned read later = ap (λ r. read_on number r (λ n. read_from (number + 1) n lines)) turned ∙ later next read
     go (Err other) turned read later = absurd cc
 
@@ -96,7 +104,9 @@ first limits lines fault h =
     }
 
 -- a fault that an input has
-has_fault : (bytes : List ℕ) (limits : Limits) (fault : ScriptErr) (b : Bool) (r : Result Context ScriptErr) → nat_lt 16777216 (length bytes) ≡ b → read_from 1 (start limits) (input_lines bytes) ≡ r → result_err (cond b (Err (fault_at 0 cause.TooLong)) (script_of_lines r)) ≡ Some fault → HasFault bytes limits fault
+has_fault : (bytes : List ℕ) (limits : Limits) (fault : ScriptErr) (b : Bool) (r : Result Context ScriptErr) → nat_lt 16777216 (length bytes) ≡ b
+    → read_from 1 (start limits) (input_lines bytes) ≡ r → result_err (cond b (Err (fault_at 0 cause.TooLong)) (script_of_lines r)) ≡ Some fault
+    → HasFault bytes limits fault
 has_fault bytes limits fault true r long read e = inl (ltb-true _ _ long, cc)
 has_fault bytes limits fault false (Ok c) short read e = absurd cc
 has_fault bytes limits fault false (Err f) short read e =
@@ -104,8 +114,13 @@ has_fault bytes limits fault false (Err f) short read e =
     inr (ltb-false _ _ short, first limits (input_lines bytes) fault (fails (input_lines bytes) 1 (start limits) fault (read ∙ ap Err same)))
 
 -- an input that has it
-is_fault : (bytes : List ℕ) (limits : Limits) (fault : ScriptErr) → HasFault bytes limits fault → result_err (cond (nat_lt 16777216 (length bytes)) (Err (fault_at 0 cause.TooLong)) (script_of_lines (read_from 1 (start limits) (input_lines bytes)))) ≡ Some fault
-is_fault bytes limits fault (inl (long, is)) = ap (λ b. result_err (cond b (Err (fault_at 0 cause.TooLong)) (script_of_lines (read_from 1 (start limits) (input_lines bytes))))) (lt-ltb _ _ long) ∙ ap Some (sym is)
+is_fault : (bytes : List ℕ) (limits : Limits) (fault : ScriptErr) → HasFault bytes limits fault
+    → result_err
+    (cond (nat_lt 16777216 (length bytes)) (Err (fault_at 0 cause.TooLong)) (script_of_lines (read_from 1 (start limits) (input_lines bytes))))
+    ≡ Some fault
+is_fault bytes limits fault (inl (long, is)) =
+    ap (λ b. result_err (cond b (Err (fault_at 0 cause.TooLong)) (script_of_lines (read_from 1 (start limits) (input_lines bytes)))))
+    (lt-ltb _ _ long) ∙ ap Some (sym is)
 is_fault bytes limits fault (inr (short, h)) =
     let from : 1 ≤ fault.line = h.from_1 in
     let there : fault.line ≤ length (input_lines bytes) = h.there in

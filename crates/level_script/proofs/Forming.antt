@@ -97,7 +97,8 @@ not_utf8 bs h = not_true (is_utf8 bs) (λ e. h (IsUtf8-from_is_utf8 bs e))
 -- ---- bytes in front
 
 -- one more byte in front, or none
-front_step : (b : ℕ) (bs : List ℕ) (n : ℕ) (t : Bool) → continues_identifier b ≡ t → list_all continues_identifier (take n bs) ≡ true → list_all continues_identifier (take (cond (not (not t)) (1 + n) 0) (b ∷ bs)) ≡ true
+front_step : (b : ℕ) (bs : List ℕ) (n : ℕ) (t : Bool) → continues_identifier b ≡ t → list_all continues_identifier (take n bs) ≡ true
+    → list_all continues_identifier (take (cond (not (not t)) (1 + n) 0) (b ∷ bs)) ≡ true
 front_step b bs n true is rest =
     let more : 1 + n ≡ suc n = omega arith in
     ap (λ k. list_all continues_identifier (take k (b ∷ bs))) more ∙ (λ i. is i && rest i)

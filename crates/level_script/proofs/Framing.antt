@@ -144,28 +144,36 @@ abbrev FactsOf : List Class → List (List ℕ) → LaneNames → LaneNames × L
 FactsOf classes fields lane (left, command) = StepFacts classes fields lane left command
 
 -- the frame opens
-open_facts : (classes : List Class) (fields : List (List ℕ)) (lane : LaneNames) (b : Bool) → lane.opened ≡ b → (left : LaneNames × LaneCmd) → cond b (Err cause.Frame) (Ok (record lane { opened = true }, lane_cmd.Open)) ≡ Ok left → FactsOf classes fields lane left
+open_facts : (classes : List Class) (fields : List (List ℕ)) (lane : LaneNames) (b : Bool) → lane.opened ≡ b → (left : LaneNames × LaneCmd)
+    → cond b (Err cause.Frame) (Ok (record lane { opened = true }, lane_cmd.Open)) ≡ Ok left → FactsOf classes fields lane left
 open_facts classes fields lane true is left e = err_ok e
 open_facts classes fields lane false is left e = subst (FactsOf classes fields lane) (ok_same e) (record { opened = refl; grows = omega arith; fit = λ vars count names few some named. ap not is })
 
 -- the frame closes
-close_facts : (classes : List Class) (fields : List (List ℕ)) (lane : LaneNames) (b : Bool) → lane.opened ≡ b → (left : LaneNames × LaneCmd) → cond b (Ok (record { opened = false; names = lane.names; bound = [] }, lane_cmd.Close)) (Err cause.Frame) ≡ Ok left → FactsOf classes fields lane left
+close_facts : (classes : List Class) (fields : List (List ℕ)) (lane : LaneNames) (b : Bool) → lane.opened ≡ b → (left : LaneNames × LaneCmd)
+    → cond b (Ok (record { opened = false; names = lane.names; bound = [] }, lane_cmd.Close)) (Err cause.Frame) ≡ Ok left
+    → FactsOf classes fields lane left
 close_facts classes fields lane false is left e = err_ok e
 close_facts classes fields lane true is left e = subst (FactsOf classes fields lane) (ok_same e) (record { opened = refl; grows = omega arith; fit = λ vars count names few some named. is })
 
 -- a variable is bound to a class that is known
-bound_facts : (classes : List Class) (fields : List (List ℕ)) (lane : LaneNames) (var class : List ℕ) (o : Option ClassId) → lane.opened ≡ true → find_class classes class ≡ o → (left : LaneNames × LaneCmd) → bound_new lane var o ≡ Ok left → FactsOf classes fields lane left
+bound_facts : (classes : List Class) (fields : List (List ℕ)) (lane : LaneNames) (var class : List ℕ) (o : Option ClassId) → lane.opened ≡ true
+    → find_class classes class ≡ o → (left : LaneNames × LaneCmd) → bound_new lane var o ≡ Ok left → FactsOf classes fields lane left
 bound_facts classes fields lane var class None is found left e = err_ok e
 bound_facts classes fields lane var class (Some id) is found left e =
     subst (FactsOf classes fields lane) (ok_same e) (record {
       opened = refl;
       grows = names_grow lane.names var;
       fit = λ vars count names few some named.
-          (λ t. is t && below_true (number_in lane.names var) (length (with_name lane.names var)) vars (number_below lane.names var) few t && below_true id.0 (length classes) count (class_below classes class id found) some t);
+          (λ t.
+          is t && below_true (number_in lane.names var) (length (with_name lane.names var)) vars (number_below lane.names var) few t
+          && below_true id.0 (length classes) count (class_below classes class id found) some t);
     })
 
 -- a variable is bound
-new_facts : (classes : List Class) (fields : List (List ℕ)) (lane : LaneNames) (var class : List ℕ) (b : Bool) → lane.opened ≡ b → (left : LaneNames × LaneCmd) → cond b (bound_new lane var (find_class classes class)) (Err cause.Frame) ≡ Ok left → FactsOf classes fields lane left
+new_facts : (classes : List Class) (fields : List (List ℕ)) (lane : LaneNames) (var class : List ℕ) (b : Bool) → lane.opened ≡ b
+    → (left : LaneNames × LaneCmd) → cond b (bound_new lane var (find_class classes class)) (Err cause.Frame) ≡ Ok left
+    → FactsOf classes fields lane left
 new_facts classes fields lane var class false is left e = err_ok e
 new_facts classes fields lane var class true is left e = bound_facts classes fields lane var class (find_class classes class) is refl left e
 
@@ -183,24 +191,38 @@ bound_below : (lane : LaneNames) (var : List ℕ) (n : ℕ) → bound_var lane v
 bound_below lane var n e = found_below lane.names var n (if_bound_some lane.bound (number_of_name lane.names var) n e)
 
 -- the object of a variable that is bound becomes a root, or is one no longer
-rooted_facts : (classes : List Class) (fields : List (List ℕ)) (lane : LaneNames) (var : List ℕ) (on : Bool) (o : Option ℕ) → lane.opened ≡ true → bound_var lane var ≡ o → (left : LaneNames × LaneCmd) → root_of lane on o ≡ Ok left → FactsOf classes fields lane left
+rooted_facts : (classes : List Class) (fields : List (List ℕ)) (lane : LaneNames) (var : List ℕ) (on : Bool) (o : Option ℕ) → lane.opened ≡ true
+    → bound_var lane var ≡ o → (left : LaneNames × LaneCmd) → root_of lane on o ≡ Ok left → FactsOf classes fields lane left
 rooted_facts classes fields lane var on None is found left e = err_ok e
 rooted_facts classes fields lane var on (Some n) is found left e =
     let below = bound_below lane var n found in
-    subst (FactsOf classes fields lane) (ok_same e) (record { opened = refl; grows = omega arith; fit = λ vars count names few some named. (λ t. is t && below_true n (length lane.names) vars below few t) })
+    subst (FactsOf classes fields lane) (ok_same e)
+    (record {
+      opened = refl;
+      grows = omega arith;
+      fit = λ vars count names few some named. (λ t. is t && below_true n (length lane.names) vars below few t);
+    })
 
-root_facts : (classes : List Class) (fields : List (List ℕ)) (lane : LaneNames) (var : List ℕ) (on b : Bool) → lane.opened ≡ b → (left : LaneNames × LaneCmd) → cond b (root_of lane on (bound_var lane var)) (Err cause.Frame) ≡ Ok left → FactsOf classes fields lane left
+root_facts : (classes : List Class) (fields : List (List ℕ)) (lane : LaneNames) (var : List ℕ) (on b : Bool) → lane.opened ≡ b
+    → (left : LaneNames × LaneCmd) → cond b (root_of lane on (bound_var lane var)) (Err cause.Frame) ≡ Ok left → FactsOf classes fields lane left
 root_facts classes fields lane var on false is left e = err_ok e
 root_facts classes fields lane var on true is left e = rooted_facts classes fields lane var on (bound_var lane var) is refl left e
 
 -- the object of a variable that is bound is told
-printed_facts : (classes : List Class) (fields : List (List ℕ)) (lane : LaneNames) (var : List ℕ) (o : Option ℕ) → lane.opened ≡ true → bound_var lane var ≡ o → (left : LaneNames × LaneCmd) → print_of lane o ≡ Ok left → FactsOf classes fields lane left
+printed_facts : (classes : List Class) (fields : List (List ℕ)) (lane : LaneNames) (var : List ℕ) (o : Option ℕ) → lane.opened ≡ true
+    → bound_var lane var ≡ o → (left : LaneNames × LaneCmd) → print_of lane o ≡ Ok left → FactsOf classes fields lane left
 printed_facts classes fields lane var None is found left e = err_ok e
 printed_facts classes fields lane var (Some n) is found left e =
     let below = bound_below lane var n found in
-    subst (FactsOf classes fields lane) (ok_same e) (record { opened = refl; grows = omega arith; fit = λ vars count names few some named. (λ t. is t && below_true n (length lane.names) vars below few t) })
+    subst (FactsOf classes fields lane) (ok_same e)
+    (record {
+      opened = refl;
+      grows = omega arith;
+      fit = λ vars count names few some named. (λ t. is t && below_true n (length lane.names) vars below few t);
+    })
 
-print_facts : (classes : List Class) (fields : List (List ℕ)) (lane : LaneNames) (var : List ℕ) (b : Bool) → lane.opened ≡ b → (left : LaneNames × LaneCmd) → cond b (print_of lane (bound_var lane var)) (Err cause.Frame) ≡ Ok left → FactsOf classes fields lane left
+print_facts : (classes : List Class) (fields : List (List ℕ)) (lane : LaneNames) (var : List ℕ) (b : Bool) → lane.opened ≡ b
+    → (left : LaneNames × LaneCmd) → cond b (print_of lane (bound_var lane var)) (Err cause.Frame) ≡ Ok left → FactsOf classes fields lane left
 print_facts classes fields lane var false is left e = err_ok e
 print_facts classes fields lane var true is left e = printed_facts classes fields lane var (bound_var lane var) is refl left e
 
@@ -211,10 +233,13 @@ record SpotFacts (lane : LaneNames) (fields : List (List ℕ)) (spot : Spot) : T
   var : spot.var < count_of lane
   field : spot.field < length fields
 
-spot_facts : (lane : LaneNames) (fields : List (List ℕ)) (place : Place) (element : ℕ) (o f : Option ℕ) (spot : Spot) → bound_var lane place.var ≡ o → number_of_name fields place.field ≡ f → spot_with element o f ≡ Some spot → SpotFacts lane fields spot
+spot_facts : (lane : LaneNames) (fields : List (List ℕ)) (place : Place) (element : ℕ) (o f : Option ℕ) (spot : Spot) → bound_var lane place.var ≡ o
+    → number_of_name fields place.field ≡ f → spot_with element o f ≡ Some spot → SpotFacts lane fields spot
 spot_facts lane fields place element None f spot is named e = absurd cc
 spot_facts lane fields place element (Some var) None spot is named e = absurd cc
-spot_facts lane fields place element (Some var) (Some field) spot is named e = subst (SpotFacts lane fields) (some_same e) (record { var = bound_below lane place.var var is; field = found_below fields place.field field named })
+spot_facts lane fields place element (Some var) (Some field) spot is named e =
+    subst (SpotFacts lane fields) (some_same e)
+    (record { var = bound_below lane place.var var is; field = found_below fields place.field field named })
 
 -- each spot that is found
 found_facts : (lane : LaneNames) (fields : List (List ℕ)) (place : Place) (element : ℕ) (spot : Spot) → spot_found lane fields place element ≡ Some spot → SpotFacts lane fields spot
@@ -242,7 +267,8 @@ module _ (classes : List Class) (fields : List (List ℕ)) (lane : LaneNames) wh
   in_frame false r is fits left e = err_ok e
   in_frame true r is fits left e = fits is left e
 
-  set_at_facts : (to : Option (List ℕ)) (s : Option Spot) (t : Option (Option ℕ)) → lane.opened ≡ true → ((spot : Spot) → s ≡ Some spot → SpotFacts lane fields spot) → bound_target lane to ≡ t → Fits (set_at lane s t)
+  set_at_facts : (to : Option (List ℕ)) (s : Option Spot) (t : Option (Option ℕ)) → lane.opened ≡ true
+      → ((spot : Spot) → s ≡ Some spot → SpotFacts lane fields spot) → bound_target lane to ≡ t → Fits (set_at lane s t)
   set_at_facts to None t is spots target left e = err_ok e
   set_at_facts to (Some spot) None is spots target left e = err_ok e
   set_at_facts to (Some spot) (Some var) is spots target left e =
@@ -302,7 +328,8 @@ module _ (classes : List Class) (fields : List (List ℕ)) (lane : LaneNames) wh
       in_frame lane.opened _ refl (λ is. take_at_facts (spot_found lane fields place element) is (found_facts lane fields place element)) left e
 
 -- each step
-step_facts : (classes : List Class) (fields : List (List ℕ)) (lane : LaneNames) (what : Does) (left : LaneNames × LaneCmd) → lane_step classes fields lane what ≡ Ok left → FactsOf classes fields lane left
+step_facts : (classes : List Class) (fields : List (List ℕ)) (lane : LaneNames) (what : Does) (left : LaneNames × LaneCmd)
+    → lane_step classes fields lane what ≡ Ok left → FactsOf classes fields lane left
 step_facts classes fields lane does.Open left e = open_facts classes fields lane lane.opened refl left e
 step_facts classes fields lane does.Close left e = close_facts classes fields lane lane.opened refl left e
 step_facts classes fields lane (does.New var class) left e = new_facts classes fields lane var class lane.opened refl left e
@@ -332,7 +359,9 @@ both true b h = (refl, h)
 both false b h = absurd (cc)
 
 -- one more line that fits
-framed_more : (vars : List ℕ) (classes fields : ℕ) (frames : List Bool) (lines : List Line) (line : Line) → are_framed vars classes fields frames lines ≡ true → fits vars classes fields (frames_through frames lines) line.cmd ≡ true → are_framed vars classes fields frames (lines ++ line ∷ []) ≡ true
+framed_more : (vars : List ℕ) (classes fields : ℕ) (frames : List Bool) (lines : List Line) (line : Line)
+    → are_framed vars classes fields frames lines ≡ true → fits vars classes fields (frames_through frames lines) line.cmd ≡ true
+    → are_framed vars classes fields frames (lines ++ line ∷ []) ≡ true
 unfolding are_framed frames_through
 framed_more vars classes fields frames [] line was now = ap (λ b. b && true) now
 framed_more vars classes fields frames (l ∷ lines) line was now =
@@ -347,7 +376,8 @@ Within lanes vars = (l : ℕ) → count_of (get_or lanes l closed_lane) ≤ get_
 record Good (limits : Limits) (c : Context) : Type 0 where
   lanes : length c.lanes ≡ limits.lanes
   now : frames_through (replicate limits.lanes false) c.lines ≡ map (λ lane. lane.opened) c.lanes
-  framed : (vars : List ℕ) (classes fields : ℕ) → Within c.lanes vars → length c.classes.classes ≤ classes → length c.fields ≤ fields → are_framed vars classes fields (replicate limits.lanes false) c.lines ≡ true
+  framed : (vars : List ℕ) (classes fields : ℕ) → Within c.lanes vars → length c.classes.classes ≤ classes → length c.fields ≤ fields
+      → are_framed vars classes fields (replicate limits.lanes false) c.lines ≡ true
   slots : c.classes.slots ≡ limits.slots
   some : 0 < length c.classes.classes
   at_once : AllByRecursion IsAtOnce c.classes.classes
@@ -361,7 +391,8 @@ changed c lanes = record { classes = c.classes; in_header = c.in_header; lanes =
 good_push : (limits : Limits) (c : Context) (lanes : List LaneNames) (number : ℕ) (command : Cmd) → Good limits c → length lanes ≡ length c.lanes →
     frames_after (map (λ lane. lane.opened) c.lanes) command ≡ map (λ lane. lane.opened) lanes →
     ((l : ℕ) → count_of (get_or c.lanes l closed_lane) ≤ count_of (get_or lanes l closed_lane)) →
-    ((vars : List ℕ) (classes names : ℕ) → Within lanes vars → length c.classes.classes ≤ classes → length c.fields ≤ names → fits vars classes names (map (λ lane. lane.opened) c.lanes) command ≡ true) →
+    ((vars : List ℕ) (classes names : ℕ) → Within lanes vars → length c.classes.classes ≤ classes → length c.fields ≤ names
+    → fits vars classes names (map (λ lane. lane.opened) c.lanes) command ≡ true) →
     Good limits (with_line (changed c lanes) number command)
 good_push limits c lanes number command g same frames grow fit =
     let line : Line = record { number = number; cmd = command } in
@@ -385,7 +416,8 @@ got (y ∷ ys) zero x d e = (omega arith, some_same e)
 got (y ∷ ys) (suc i) x d e = let h = got ys i x d e in (omega (arith, h.0), h.1)
 
 -- where one lane has no fewer variables, none has fewer
-set_grows : (xs : List LaneNames) (i : ℕ) (x : LaneNames) → count_of (get_or xs i closed_lane) ≤ count_of x → (l : ℕ) → count_of (get_or xs l closed_lane) ≤ count_of (get_or (slice_set xs i x) l closed_lane)
+set_grows : (xs : List LaneNames) (i : ℕ) (x : LaneNames) → count_of (get_or xs i closed_lane) ≤ count_of x → (l : ℕ)
+    → count_of (get_or xs l closed_lane) ≤ count_of (get_or (slice_set xs i x) l closed_lane)
 set_grows [] i x h l = omega arith
 set_grows (y ∷ ys) zero x h zero = h
 set_grows (y ∷ ys) zero x h (suc l) = omega arith
@@ -393,11 +425,13 @@ set_grows (y ∷ ys) (suc i) x h zero = omega arith
 set_grows (y ∷ ys) (suc i) x h (suc l) = set_grows ys i x h l
 
 -- a line of a lane fits
-good_lane : (limits : Limits) (c : Context) (number i : ℕ) (lane left : LaneNames) (command : LaneCmd) → Good limits c → slice_get c.lanes i ≡ Some lane → StepFacts c.classes.classes c.fields lane left command →
+good_lane : (limits : Limits) (c : Context) (number i : ℕ) (lane left : LaneNames) (command : LaneCmd) → Good limits c
+    → slice_get c.lanes i ≡ Some lane → StepFacts c.classes.classes c.fields lane left command →
     Good limits (with_line (changed c (slice_set c.lanes i left)) number (cmd.Lane i command))
 good_lane limits c number i lane left command g is facts =
     let there = got c.lanes i lane closed_lane is in
-    let opened_here : slice_index_or (map (λ lane. lane.opened) c.lanes) i false ≡ lane.opened = get_or-map (λ (lane : LaneNames). lane.opened) c.lanes i closed_lane ∙ ap (λ (lane : LaneNames). lane.opened) there.1 in
+    let opened_here : slice_index_or (map (λ lane. lane.opened) c.lanes) i false ≡ lane.opened =
+    get_or-map (λ (lane : LaneNames). lane.opened) c.lanes i closed_lane ∙ ap (λ (lane : LaneNames). lane.opened) there.1 in
     good_push limits c (slice_set c.lanes i left) number (cmd.Lane i command) g
     (length-set c.lanes i left)
     (ap (λ o. slice_set (map (λ lane. lane.opened) c.lanes) i (opened_after command o)) opened_here
@@ -410,12 +444,17 @@ good_lane limits c number i lane left command g is facts =
     (λ t. inside t && fits_lane (slice_index vars i) classes names (opened_here t) command) ∙ facts.fit (get_or vars i 0) classes names most few named)
 
 -- a step of a lane keeps it
-good_with_lane : (limits : Limits) (c next : Context) (number i : ℕ) (lane : LaneNames) (what : Does) (r : Result (LaneNames × LaneCmd) Cause) → Good limits c → slice_get c.lanes i ≡ Some lane → lane_step c.classes.classes c.fields lane what ≡ r → with_lane number c i r ≡ Ok next → Good limits next
+good_with_lane : (limits : Limits) (c next : Context) (number i : ℕ) (lane : LaneNames) (what : Does) (r : Result (LaneNames × LaneCmd) Cause)
+    → Good limits c → slice_get c.lanes i ≡ Some lane → lane_step c.classes.classes c.fields lane what ≡ r → with_lane number c i r ≡ Ok next
+    → Good limits next
 good_with_lane limits c next number i lane what (Err why) g is step e = err_ok e
-good_with_lane limits c next number i lane what (Ok (left, command)) g is step e = subst (Good limits) (ok_same e) (good_lane limits c number i lane left command g is (step_facts c.classes.classes c.fields lane what (left, command) step))
+good_with_lane limits c next number i lane what (Ok (left, command)) g is step e =
+    subst (Good limits) (ok_same e)
+    (good_lane limits c number i lane left command g is (step_facts c.classes.classes c.fields lane what (left, command) step))
 
 -- so does a line of a lane that is there
-good_lane_at : (limits : Limits) (c next : Context) (number i : ℕ) (what : Does) (o : Option LaneNames) → Good limits c → slice_get c.lanes i ≡ o → lane_at number c i o what ≡ Ok next → Good limits next
+good_lane_at : (limits : Limits) (c next : Context) (number i : ℕ) (what : Does) (o : Option LaneNames) → Good limits c → slice_get c.lanes i ≡ o
+    → lane_at number c i o what ≡ Ok next → Good limits next
 good_lane_at limits c next number i what None g is e = err_ok e
 good_lane_at limits c next number i what (Some lane) g is e = good_with_lane limits c next number i lane what (lane_step c.classes.classes c.fields lane what) g is refl e
 
@@ -483,7 +522,8 @@ fielded_grows t more class field None e =
     })
 
 -- a line of the header keeps it
-good_classes : (limits : Limits) (c next : Context) (r : Result Schema SchemaErr) → Good limits c → ((more : Schema) → r ≡ Ok more → TableGrows c.classes more) → with_classes c r ≡ Ok next → Good limits next
+good_classes : (limits : Limits) (c next : Context) (r : Result Schema SchemaErr) → Good limits c
+    → ((more : Schema) → r ≡ Ok more → TableGrows c.classes more) → with_classes c r ≡ Ok next → Good limits next
 good_classes limits c next (Err refusal) g grows e = err_ok e
 good_classes limits c next (Ok more) g grows e =
     let t = grows more refl in
@@ -498,7 +538,8 @@ good_classes limits c next (Ok more) g grows e =
     })
 
 -- so does one that tells a field, whose name is known then
-good_named : (limits : Limits) (c next : Context) (name : List ℕ) (r : Result Schema SchemaErr) → Good limits c → ((more : Schema) → r ≡ Ok more → TableGrows c.classes more) → with_named c name r ≡ Ok next → Good limits next
+good_named : (limits : Limits) (c next : Context) (name : List ℕ) (r : Result Schema SchemaErr) → Good limits c
+    → ((more : Schema) → r ≡ Ok more → TableGrows c.classes more) → with_named c name r ≡ Ok next → Good limits next
 good_named limits c next name (Err refusal) g grows e = err_ok e
 good_named limits c next name (Ok more) g grows e =
     let t = grows more refl in
@@ -513,14 +554,16 @@ good_named limits c next name (Ok more) g grows e =
     })
 
 -- that is each line that tells a field
-good_field : (limits : Limits) (c next : Context) (number : ℕ) (name : List ℕ) (count : ℕ) (class : Option ClassId) (what : Option FieldKind) → Good limits c → field_known number c name count class what ≡ Ok next → Good limits next
+good_field : (limits : Limits) (c next : Context) (number : ℕ) (name : List ℕ) (count : ℕ) (class : Option ClassId) (what : Option FieldKind)
+    → Good limits c → field_known number c name count class what ≡ Ok next → Good limits next
 good_field limits c next number name count None what g e = err_ok e
 good_field limits c next number name count (Some class) None g e = err_ok e
 good_field limits c next number name count (Some class) (Some what) g e =
     let field : Declaration = record { name = name; line = number; kind = what; count = count } in
     good_named limits c next name (field_added c.classes class field) g (λ more is. fielded_grows c.classes more class field (field_refusal c.classes class field.name field.count) is) e
 
-good_counted : (limits : Limits) (c next : Context) (number : ℕ) (class name : List ℕ) (what : FieldOf) (o : Option ℕ) → Good limits c → field_counted number c class name what o ≡ Ok next → Good limits next
+good_counted : (limits : Limits) (c next : Context) (number : ℕ) (class name : List ℕ) (what : FieldOf) (o : Option ℕ) → Good limits c
+    → field_counted number c class name what o ≡ Ok next → Good limits next
 good_counted limits c next number class name what None g e = err_ok e
 good_counted limits c next number class name what (Some count) g e = good_field limits c next number name count (find_class c.classes.classes class) (kind_found c.classes.classes what) g e
 
@@ -529,9 +572,13 @@ good_counted limits c next number class name what (Some count) g e = good_field 
 -- what a line says keeps it
 good_act : (limits : Limits) (c next : Context) (number : ℕ) (what : Said) → Good limits c → SaysName what → act_turn number c what ≡ Ok next → Good limits next
 good_act limits c next number said.Nothing g says e = subst (Good limits) (ok_same e) g
-good_act limits c next number (said.Class name parent) g says e = good_classes limits c next (added c.classes number name parent) g (λ more is. added_grows c.classes more number name (admitted c.classes.classes name parent) says is) e
+good_act limits c next number (said.Class name parent) g says e =
+    good_classes limits c next (added c.classes number name parent) g
+    (λ more is. added_grows c.classes more number name (admitted c.classes.classes name parent) says is) e
 good_act limits c next number (said.Field class name what count) g says e = good_counted limits c next number class name what (elements_in count) g e
-good_act limits c next number said.Full g says e = subst (Good limits) (ok_same e) (good_push limits c c.lanes number (cmd.Gc gc_cmd.Full) g refl refl (λ l. omega arith) (λ vars classes names within few named. refl))
+good_act limits c next number said.Full g says e =
+    subst (Good limits) (ok_same e)
+    (good_push limits c c.lanes number (cmd.Gc gc_cmd.Full) g refl refl (λ l. omega arith) (λ vars classes names within few named. refl))
 good_act limits c next number (said.Lane lane what) g says e = good_lane_of limits c next number what (lane_index (length c.lanes) lane) g e
 
 -- so does a line that says something
@@ -547,10 +594,13 @@ short_enough false r next e = e
 -- each line keeps it
 good_line : (limits : Limits) (c next : Context) (number : ℕ) (line : List ℕ) → Good limits c → line_turn number c line ≡ Ok next → Good limits next
 unfolding line_turn
-good_line limits c next number line g e = good_said limits c next number (said_by_line c.in_header line) g (line_says c.in_header line) (short_enough (nat_lt 200000 number) (turn number c line) next e)
+good_line limits c next number line g e =
+    good_said limits c next number (said_by_line c.in_header line) g (line_says c.in_header line)
+    (short_enough (nat_lt 200000 number) (turn number c line) next e)
 
 -- what is read on is read after a line
-pub on_ok : (number : ℕ) (r : Result Context Cause) (more : Context → Result Context ScriptErr) (last : Context) → read_on number r more ≡ Ok last → (next : Context) × (r ≡ Ok next) × (more next ≡ Ok last)
+pub on_ok : (number : ℕ) (r : Result Context Cause) (more : Context → Result Context ScriptErr) (last : Context) → read_on number r more ≡ Ok last
+    → (next : Context) × (r ≡ Ok next) × (more next ≡ Ok last)
 on_ok number (Err why) more last e = err_ok e
 on_ok number (Ok next) more last e = (next, refl, e)
 
@@ -575,7 +625,16 @@ closed_copies (suc n) = ap (λ fs. false ∷ fs) (closed_copies n)
 -- it is so before the first line
 good_start : (limits : Limits) → Good limits (start limits)
 unfolding frames_through are_framed
-good_start limits = record { lanes = length_copies limits.lanes; now = closed_copies limits.lanes; framed = λ vars classes names within few named. refl; slots = refl; some = omega arith; at_once = (refl, tt); named = (object_named, tt) }
+good_start limits =
+    record {
+      lanes = length_copies limits.lanes;
+      now = closed_copies limits.lanes;
+      framed = λ vars classes names within few named. refl;
+      slots = refl;
+      some = omega arith;
+      at_once = (refl, tt);
+      named = (object_named, tt);
+    }
 
 -- the script of such a context can be played
 good_script : (limits : Limits) (c : Context) → Good limits c → IsPlayable limits (script_from c)
@@ -584,7 +643,10 @@ good_script limits c g = record {
   slots = g.slots;
   at_once = g.at_once;
   named = g.named;
-  framed = g.framed (map count_of c.lanes) (length c.classes.classes) (length c.fields) (λ l. let same : get_or (map count_of c.lanes) l 0 ≡ count_of (get_or c.lanes l closed_lane) = get_or-map count_of c.lanes l closed_lane in omega (arith, same)) (omega arith) (omega arith);
+  framed =
+      g.framed (map count_of c.lanes) (length c.classes.classes) (length c.fields)
+      (λ l. let same : get_or (map count_of c.lanes) l 0 ≡ count_of (get_or c.lanes l closed_lane) = get_or-map count_of c.lanes l closed_lane in
+      omega (arith, same)) (omega arith) (omega arith);
   classes = g.some;
 }
 
@@ -594,7 +656,8 @@ good_outcome limits (Err fault) script good e = absurd (cc)
 good_outcome limits (Ok c) script good e = subst (IsPlayable limits) (some_same e) (good_script limits c (good c refl))
 
 -- and each of an input
-good_input : (limits : Limits) (b : Bool) (r : Result Context ScriptErr) (script : Script) → ((c : Context) → r ≡ Ok c → Good limits c) → result_ok (cond b (Err (fault_at 0 cause.TooLong)) (script_of_lines r)) ≡ Some script → IsPlayable limits script
+good_input : (limits : Limits) (b : Bool) (r : Result Context ScriptErr) (script : Script) → ((c : Context) → r ≡ Ok c → Good limits c)
+    → result_ok (cond b (Err (fault_at 0 cause.TooLong)) (script_of_lines r)) ≡ Some script → IsPlayable limits script
 good_input limits true r script good e = absurd (cc)
 good_input limits false r script good e = good_outcome limits r script good e
 
@@ -602,4 +665,5 @@ good_input limits false r script good e = good_outcome limits r script good e
 pub playable : (bytes : List ℕ) (limits : Limits) (script : Script) → script_of bytes limits ≡ Some script → IsPlayable limits script
 unfolding script_of outcome_of
 playable bytes limits script e =
-    good_input limits (nat_lt 16777216 (length bytes)) (read_from 1 (start limits) (input_lines bytes)) script (λ c is. good_lines limits (input_lines bytes) 1 (start limits) c (good_start limits) is) e
+    good_input limits (nat_lt 16777216 (length bytes)) (read_from 1 (start limits) (input_lines bytes)) script
+    (λ c is. good_lines limits (input_lines bytes) 1 (start limits) c (good_start limits) is) e

@@ -104,7 +104,9 @@ first_place (x ∷ ks) zero k distinct e =
     let passes : bytes_eq (string_bytes k) (string_bytes x) ≡ true = (bytes_eq-Decides (string_bytes k) (string_bytes x)).1 (ap string_bytes same) in
     ap (λ b. cond (not b) (1 + position_or_len (bytes_eq (string_bytes k)) (map string_bytes ks)) 0) passes
 first_place (x ∷ ks) (suc n) k distinct e =
-    let other : bytes_eq (string_bytes k) (string_bytes x) ≡ false = differ (bytes_eq (string_bytes k) (string_bytes x)) (string_bytes x) (string_bytes k) refl (all_at (λ y. string_eq x y ≡ false) ks n k distinct.0 e) in
+    let other : bytes_eq (string_bytes k) (string_bytes x) ≡ false =
+    differ (bytes_eq (string_bytes k) (string_bytes x)) (string_bytes x) (string_bytes k) refl
+    (all_at (λ y. string_eq x y ≡ false) ks n k distinct.0 e) in
     ap (λ b. cond (not b) (1 + position_or_len (bytes_eq (string_bytes k)) (map string_bytes ks)) 0) other ∙ ap (λ m. 1 + m) (first_place ks n k distinct.1 e) ∙ omega arith
 
 -- so it is its number

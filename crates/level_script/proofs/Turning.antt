@@ -48,6 +48,7 @@ unfolding read_from
 read_fault number c line lines why e = ap (λ r. read_on number r (λ n. read_from (number + 1) n lines)) e
 
 -- a fault of the first line is that of the lines
-pub reads_err : (A : Type 0) (number : ℕ) (c : Context) (line : List ℕ) (lines : List (List ℕ)) (new left : Context) (error : ParseErr) → TurnsLine {A = A} (line_turn number c line) number new (Err error) → ReadsLines {A = A} (read_from number c (line ∷ lines)) left (Err error)
+pub reads_err : (A : Type 0) (number : ℕ) (c : Context) (line : List ℕ) (lines : List (List ℕ)) (new left : Context) (error : ParseErr)
+    → TurnsLine {A = A} (line_turn number c line) number new (Err error) → ReadsLines {A = A} (read_from number c (line ∷ lines)) left (Err error)
 reads_err A number c line lines new left (parse.Bad fault) (why, e, is) = read_fault number c line lines why e ∙ ap Err (sym is)
 reads_err A number c line lines new left parse.Memory h = tt

@@ -89,7 +89,10 @@ field_turn number c class name what count = field_counted number c class name wh
 
 -- what a lane's line leaves, and the line
 abbrev pub with_lane : ℕ → Context → ℕ → Result (LaneNames × LaneCmd) Cause → Result Context Cause
-with_lane number c index (Ok (lane, command)) = Ok (with_line (record { classes = c.classes; in_header = c.in_header; lanes = slice_set c.lanes index lane; fields = c.fields; lines = c.lines }) number (cmd.Lane index command))
+with_lane number c index (Ok (lane, command)) =
+    Ok
+    (with_line (record { classes = c.classes; in_header = c.in_header; lanes = slice_set c.lanes index lane; fields = c.fields; lines = c.lines })
+    number (cmd.Lane index command))
 with_lane number c index (Err why) = Err why
 
 -- the same of the lane at a place

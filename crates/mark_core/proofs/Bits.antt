@@ -45,8 +45,8 @@ bit_in f (suc n) i lt = go (eqb i n) refl (bit_in f n i)
         let le : n ≤ i = omega (arith, same) in
         let none : i - n ≡ 0 = omega (arith, same) in
         ap (λ (x : ℕ). bit_at x i) turned
-            ∙ (bit_at_cat_high (bit (f n)) n (bits_word f n) i (bits-below f n) le
-              ∙ (ap (bit_at (bit (f n))) none ∙ (bit_of (f n) ∙ ap (λ (j : ℕ). bit (f j)) (sym same))))
+        ∙ (bit_at_cat_high (bit (f n)) n (bits_word f n) i (bits-below f n) le
+        ∙ (ap (bit_at (bit (f n))) none ∙ (bit_of (f n) ∙ ap (λ (j : ℕ). bit (f j)) (sym same))))
     go false e before =
         let off : i ≢ n = (λ same. let wrong : false ≡ true = sym e ∙ eq-eqb i n same in absurd cc) in
         let low : i < n = omega (arith, lt, off) in
@@ -69,29 +69,29 @@ word_put f g n k low here other = same_from_bits (bits_word g n) (bit_or (bits_w
         let lt : i < n = search rules in
         let same : i ≡ k = eqb-true i k at in
         bit_in g n i lt
-            ∙ (ap (λ (j : ℕ). bit (g j)) same
-              ∙ (ap bit here
-                ∙ sym
-                  (bit_at_or (bits_word f n) (2 ^ k) i
-                    ∙ (ap (λ (x : ℕ). max x (bit_at (2 ^ k) i)) (bit_in f n i lt)
-                      ∙ (ap (λ (x : ℕ). max (bit (f i)) x) (ap (bit_at (2 ^ k)) same ∙ bit_at-pow_same k) ∙ with_one (f i))))))
+        ∙ (ap (λ (j : ℕ). bit (g j)) same
+        ∙ (ap bit here
+        ∙ sym
+        (bit_at_or (bits_word f n) (2 ^ k) i
+        ∙ (ap (λ (x : ℕ). max x (bit_at (2 ^ k) i)) (bit_in f n i lt)
+        ∙ (ap (λ (x : ℕ). max (bit (f i)) x) (ap (bit_at (2 ^ k)) same ∙ bit_at-pow_same k) ∙ with_one (f i))))))
     go i true e false at =
         let lt : i < n = search rules in
         let off : i ≢ k = (λ same. let wrong : false ≡ true = sym at ∙ eq-eqb i k same in absurd cc) in
         bit_in g n i lt
-            ∙ (ap bit (other i off)
-              ∙ sym
-                (bit_at_or (bits_word f n) (2 ^ k) i
-                  ∙ (ap (λ (x : ℕ). max x (bit_at (2 ^ k) i)) (bit_in f n i lt)
-                    ∙ (ap (λ (x : ℕ). max (bit (f i)) x) (bit_at-pow_other k i off) ∙ with_none (f i)))))
+        ∙ (ap bit (other i off)
+        ∙ sym
+        (bit_at_or (bits_word f n) (2 ^ k) i
+        ∙ (ap (λ (x : ℕ). max x (bit_at (2 ^ k) i)) (bit_in f n i lt)
+        ∙ (ap (λ (x : ℕ). max (bit (f i)) x) (bit_at-pow_other k i off) ∙ with_none (f i)))))
     go i false e d at =
         let far : n ≤ i = search rules in
         let off : i ≢ k = (λ same. absurd (omega (arith, far, low, same))) in
         bit_at_above (bits_word g n) n i (bits-below g n) far
-            ∙ sym
-              (bit_at_or (bits_word f n) (2 ^ k) i
-                ∙ (ap (λ (x : ℕ). max x (bit_at (2 ^ k) i)) (bit_at_above (bits_word f n) n i (bits-below f n) far)
-                  ∙ ap (max 0) (bit_at-pow_other k i off)))
+        ∙ sym
+        (bit_at_or (bits_word f n) (2 ^ k) i
+        ∙ (ap (λ (x : ℕ). max x (bit_at (2 ^ k) i)) (bit_at_above (bits_word f n) n i (bits-below f n) far)
+        ∙ ap (max 0) (bit_at-pow_other k i off)))
 
 -- one bit is cleared
 word_cut : (f g : ℕ → Bool) (k : ℕ) → k < 64 → g k ≡ false → ((i : ℕ) → i ≢ k → g i ≡ f i) → bits_word g 64 ≡ bit_and (bits_word f 64) (bit_not w64 (2 ^ k))
@@ -113,8 +113,8 @@ word_cut f g k low here other = same_from_bits (bits_word g 64) (bit_and (bits_w
         let far : 64 ≤ i = search rules in
         let none_f : bit_at (bits_word f 64) i ≡ 0 = bit_at_above (bits_word f 64) 64 i (bits-below f 64) far in
         bit_at_above (bits_word g 64) 64 i (bits-below g 64) far
-            ∙ sym
-              (bit_at_and (bits_word f 64) (bit_not w64 (2 ^ k)) i ∙ (ap (λ (x : ℕ). min x (bit_at (bit_not w64 (2 ^ k)) i)) none_f ∙ omega arith))
+        ∙ sym
+        (bit_at_and (bits_word f 64) (bit_not w64 (2 ^ k)) i ∙ (ap (λ (x : ℕ). min x (bit_at (bit_not w64 (2 ^ k)) i)) none_f ∙ omega arith))
 
 -- a word is zero exactly with no bits
 zero_bits : (f : ℕ → Bool) (n : ℕ) → bits_word f n ≡ 0 → (i : ℕ) → i < n → f i ≡ false

@@ -1,6 +1,5 @@
 -- The collector goes over the root set and over the rows.
-use Rattle.std.proofs.Common.{◌≡◌, ℕ, ◌+◌, ◌*◌, ◌/◌, ◌%◌, ◌<◌, ◌≤◌, ◌==◌, ◌&&◌, nat_le, nat_lt, is_none, refl, sym, subst, ap, ◌∙◌, inl, inr, zero,
-    suc, arith, rules, Bool, cond, true, false, ◌⊎◌, Option, Some, None}
+use Rattle.std.proofs.Common.{◌≡◌, ℕ, ◌+◌, ◌*◌, ◌/◌, ◌%◌, ◌<◌, ◌≤◌, ◌==◌, ◌&&◌, nat_le, nat_lt, is_none, refl, sym, subst, ap, ◌∙◌, inl, inr, zero, suc, arith, rules, Bool, cond, true, false, ◌⊎◌, Option, Some, None}
 use Rattle.std.proofs.lemmas.Bool.{eqb-true, eq-eqb}
 use Rattle.mark_core.specs.Changes.{set_at}
 use Rattle.mark_core.specs.Machine.{Phase, Marking, Place, Nowhere, InRow, Job, NoJob, Roots, Look, Sizes, Core, root_places, words, same_place, row_bit}
@@ -94,11 +93,13 @@ root_settled z c u p at on h = record {
   root_set = h.root_set;
   held = h.held;
   found =
-      record { markers = h.found.markers;
+      record {
+        markers = h.found.markers;
         own =
-          λ v e.
+            λ v e.
             at_set (λ b. b ≡ true → is_live c.phase c.doomed c.marked v ≡ true) c.own_found u false v (λ s wrong. absurd cc) (λ n f. h.found.own v f)
-              e };
+            e;
+      };
   idle = h.idle;
 }
   where

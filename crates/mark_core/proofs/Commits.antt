@@ -27,9 +27,10 @@ commit_right z c commits h = record { none_grey = nowhere; reached = λ u is. wa
     nowhere = nothing_grey z c commits.may commits.no_frame commits.clean h
 
     on : (u v : ℕ) → IsSafe c u → Refers (graph c) u v → IsSafe c v
-    on u v safe refers =
-        ((h.black work.0).black u refers.0 v safe.1 safe.0 (nowhere u) refers.1 refers.2,
-          live_alive c.phase c.doomed c.marked v (h.cells u refers.0 v (live_marking c.phase c.doomed c.marked u work.0 safe.1) refers.1 refers.2))
+    on u v safe refers = (
+      (h.black work.0).black u refers.0 v safe.1 safe.0 (nowhere u) refers.1 refers.2,
+      live_alive c.phase c.doomed c.marked v (h.cells u refers.0 v (live_marking c.phase c.doomed c.marked u work.0 safe.1) refers.1 refers.2),
+    )
 
     root_safe : (p u : ℕ) → c.root p ≡ Some u → IsSafe c u
     root_safe p u e = (roots_marked z c work.0 (λ q un. subst (λ (j : Job). Unloaded j q) commits.may un) work.2 h p u e, live_alive c.phase c.doomed c.marked u (h.root_set p u e).1)

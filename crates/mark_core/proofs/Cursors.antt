@@ -1,6 +1,5 @@
 -- A cursor moves on, a scan starts, a word of a row is taken.
-use Rattle.std.proofs.Common.{◌≡◌, ℕ, ◌+◌, ◌*◌, ◌-◌, ◌/◌, ◌<◌, ◌≤◌, ◌^◌, ◌==◌, ◌&&◌, nat_lt, nat_le, refl, sym, subst, ap, ◌∙◌, inl, inr, arith, Bool,
-    cond, true, false, List, [], ◌∷◌, ◌⊎◌, Some, None}
+use Rattle.std.proofs.Common.{◌≡◌, ℕ, ◌+◌, ◌*◌, ◌-◌, ◌/◌, ◌<◌, ◌≤◌, ◌^◌, ◌==◌, ◌&&◌, nat_lt, nat_le, refl, sym, subst, ap, ◌∙◌, inl, inr, arith, Bool, cond, true, false, List, [], ◌∷◌, ◌⊎◌, Some, None}
 use Rattle.std.proofs.Math.Path.{fun_ext}
 use Rattle.std.proofs.Math.Nat.{mul-le-mul_right}
 use Rattle.std.proofs.lemmas.Bool.{eqb-true, eq-eqb}
@@ -75,7 +74,7 @@ takes_none m row first place = fun_ext at
 -- one more is
 pub takes_more : (m row first n : ℕ) (place : ℕ → Place)
     → cond (same_place (takes_below m row first n place (first + n)) (InRow row)) (set_at (takes_below m row first n place) (first + n) (OnStack m))
-          (takes_below m row first n place) ≡ takes_below m row first (n + 1) place
+    (takes_below m row first n place) ≡ takes_below m row first (n + 1) place
 takes_more m row first n place = fun_ext (λ u. at u (same_or_not u (first + n)))
   where
     this_out : (nat_lt (first + n) (first + n) && nat_le first (first + n)) ≡ false

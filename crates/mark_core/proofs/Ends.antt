@@ -1,16 +1,11 @@
 -- A marking can end: events that lead to a commit.
-use Rattle.std.proofs.Common.{◌≡◌, ℕ, zero, suc, ◌+◌, ◌-◌, ◌*◌, ◌/◌, ◌%◌, ◌<◌, ◌≤◌, ◌==◌, ◌&&◌, nat_lt, nat_le, refl, sym, subst, ap, ◌∙◌, inl, inr,
-    arith, rules, Bool, cond, true, false, not, List, [], ◌∷◌, ◌⊎◌, Option, Some, None}
+use Rattle.std.proofs.Common.{◌≡◌, ℕ, zero, suc, ◌+◌, ◌-◌, ◌*◌, ◌/◌, ◌%◌, ◌<◌, ◌≤◌, ◌==◌, ◌&&◌, nat_lt, nat_le, refl, sym, subst, ap, ◌∙◌, inl, inr, arith, rules, Bool, cond, true, false, not, List, [], ◌∷◌, ◌⊎◌, Option, Some, None}
 use Rattle.std.proofs.lemmas.Bool.{eqb-true, eq-eqb}
 use Rattle.std.proofs.lemmas.Nat.{div_below, div-add-mod'}
 use Rattle.std.proofs.Math.Nat.{mod-lt}
 use Rattle.mark_core.specs.Changes.{set_at, has, is_empty}
-use Rattle.mark_core.specs.Machine.{Marking, Gathering, Actor, Lane, Marker, Collector, CellOf, StrongOf, Place, Nowhere, InRow, OnStack, UnderScan,
-    InHand, InCollector, Scan, Job, NoJob, Roots, Look, Sizes, strong_place, root_places, words, Core, count_below, frames, same_place}
-use Rattle.mark_core.specs.Steps.{Step, FrameOpen, FrameClose, Shade, LoadCell, AddRow, TakeRow, SetDirty, ClearDirty, LoadRow, CommitExchange,
-    LoadHead, DoomHead, Settle, RootBit, IsFree, LaneMay, after_lane, none_set, no_stack, looked_all, behind, marks, moves_on, finds, goes_on, starts,
-    is_roots, found_of, marker_loads, finds_root, rests, roots_done, is_zero_word, next_word, looks, commits_by, MarkerMay, CollectorMay, Allowed,
-    after_marker, after_step}
+use Rattle.mark_core.specs.Machine.{Marking, Gathering, Actor, Lane, Marker, Collector, CellOf, StrongOf, Place, Nowhere, InRow, OnStack, UnderScan, InHand, InCollector, Scan, Job, NoJob, Roots, Look, Sizes, strong_place, root_places, words, Core, count_below, frames, same_place}
+use Rattle.mark_core.specs.Steps.{Step, FrameOpen, FrameClose, Shade, LoadCell, AddRow, TakeRow, SetDirty, ClearDirty, LoadRow, CommitExchange, LoadHead, DoomHead, Settle, RootBit, IsFree, LaneMay, after_lane, none_set, no_stack, looked_all, behind, marks, moves_on, finds, goes_on, starts, is_roots, found_of, marker_loads, finds_root, rests, roots_done, is_zero_word, next_word, looks, commits_by, MarkerMay, CollectorMay, Allowed, after_marker, after_step}
 use Rattle.mark_core.specs.Lawful.{Lawful, AtWork, FoundNone}
 use Rattle.mark_core.specs.Laws.{Commits}
 use Rattle.mark_core.specs.GoesOn.{LooksInRange, GoesOn, LeadsTo, MarkingsCanEnd, IsIdle, GatheringsCanEnd}
@@ -79,7 +74,7 @@ module _ (z : Sizes) (c : Core) (stop : (r w : ℕ) → is_zero_word c.place r w
   after_word : (r w : ℕ) → r ≤ z.markers → w < words z → LeadsToCommit z (record c { job = next_word z r w }) → LeadsToCommit z (record c { job = Look r w })
   after_word r w row word next =
       more z (record c { job = Look r w }) Collector (LoadRow r w) (row, word)
-        (subst (λ (j : Job). LeadsToCommit z (record c { job = j })) (sym looked) (pick (is_zero_word c.place r w) refl))
+      (subst (λ (j : Job). LeadsToCommit z (record c { job = j })) (sym looked) (pick (is_zero_word c.place r w) refl))
     where
       same : ((r == r) && (w == w)) ≡ true
       same = ap (λ (b : Bool). b && (w == w)) (eq-eqb r r refl) ∙ eq-eqb w w refl
@@ -244,7 +239,7 @@ module _ (z : Sizes) (c : Core) (h : Marks z c) (idle : c.job ≡ NoJob) where
           let is : c.scan m ≡ Some (record { unit = s.unit; left = n ∷ rest; found = None }) = at ∙ (λ i. Some (record { unit = s.unit; left = e i; found = f i })) in
           moved_by z c m (LoadCell (CellOf s.unit n)) lt (rest, is, own) h idle
           (subst (λ (d : Core). weight z d < weight z c) (finds_only c m (c.scan m) (c.cell n))
-              (subst (λ (o : Option Scan). weight z (finds c m o (c.cell n)) < weight z c) (sym at) (loads (c.cell n))))
+          (subst (λ (o : Option Scan). weight z (finds c m o (c.cell n)) < weight z c) (sym at) (loads (c.cell n))))
         where
           first : has (n ∷ rest) n ≡ true
           first = or_left (n == n) (has rest n) (eq-eqb n n refl)
@@ -256,7 +251,7 @@ module _ (z : Sizes) (c : Core) (h : Marks z c) (idle : c.job ≡ NoJob) where
           let found : found_of (c.scan m) ≡ Some t = ap found_of at ∙ f in
           moved_by z c m (Shade t) lt (h.marking, found) h idle
           (subst (λ (d : Core). weight z d < weight z c) (moves_only (marks c t (OnStack m)) m (c.scan m))
-              (subst (λ (o : Option Scan). weight z (moves_on (marks c t (OnStack m)) m o) < weight z c) (sym at) settles))
+          (subst (λ (o : Option Scan). weight z (moves_on (marks c t (OnStack m)) m o) < weight z c) (sym at) settles))
         where
           shaded : Lawful z (marks c t (OnStack m))
           shaded = marker_shades z c m t (scans_open z c m s at h.lawful) h.marking (live_alive c.phase c.doomed c.marked t (h.lawful.found.markers m s t at f)) h.lawful
@@ -276,8 +271,8 @@ module _ (z : Sizes) (c : Core) (h : Marks z c) (idle : c.job ≡ NoJob) where
       go None e =
           moved_by z c m (LoadHead u) (marker_in z c m opened h.lawful) (grey_in z c u (λ none. absurd cc) h.lawful) h idle
           (subst (λ (d : Core). weight z d < weight z c) (head_only c m u (c.scan m))
-              (subst (λ (o : Option Scan). weight z (marker_loads c m u o) < weight z c) (sym e)
-                (subst (λ (b : Bool). weight z (cond b (starts c m u (c.cells u)) c) < weight z c) (sym here) (starts_less z c m u e at h.lawful))))
+          (subst (λ (o : Option Scan). weight z (marker_loads c m u o) < weight z c) (sym e)
+          (subst (λ (b : Bool). weight z (cond b (starts c m u (c.cells u)) c) < weight z c) (sym here) (starts_less z c m u e at h.lawful))))
         where
           here : same_place (c.place u) (OnStack m) ≡ true
           here = ap (λ (p : Place). same_place p (OnStack m)) at ∙ eq-eqb m m refl
@@ -452,9 +447,9 @@ gather z (suc n) c p some at h less = go c.own_hand refl (find_one c.own_found z
         more z c Collector (Shade one.0) may
         (rested_on z some n next (record (marks c one.0 InCollector) { own_hand = cond (c.marked one.0) c.own_hand (Some one.0); own_found = set_at c.own_found one.0 false }) p at (omega arith)
         (goes_by
-            (record (marks c one.0 InCollector)
-              { own_hand = cond (c.marked one.0) c.own_hand (Some one.0); own_found = set_at c.own_found one.0 false }) h.marking h.lanes refl
-            h.goes.looks (step_lawful z c Collector (Shade one.0) may h.lawful)))
+        (record (marks c one.0 InCollector)
+        { own_hand = cond (c.marked one.0) c.own_hand (Some one.0); own_found = set_at c.own_found one.0 false }) h.marking h.lanes refl
+        h.goes.looks (step_lawful z c Collector (Shade one.0) may h.lawful)))
     go None e (inr none) next = pick (in_or_beyond z p)
       where
         pick : (p < z.units) ⊎ (z.units ≤ p) → LeadsToCommit z c
@@ -467,13 +462,13 @@ gather z (suc n) c p some at h less = go c.own_hand refl (find_one c.own_found z
             let may : CollectorMay z c (LoadCell (StrongOf spot.0 spot.1)) = (at ∙ ap Roots (sym spot.4), spot.2, spot.3) in
             more z c Collector (LoadCell (StrongOf spot.0 spot.1)) may
             (rested_on z some n next
-                (record c
-                  { job = Roots (strong_place z spot.0 spot.1 + 1); own_found = finds_root c.own_found (c.root (strong_place z spot.0 spot.1)) })
-                (strong_place z spot.0 spot.1 + 1) refl (loaded (strong_place z spot.0 spot.1) spot.4 e none)
+            (record c
+            { job = Roots (strong_place z spot.0 spot.1 + 1); own_found = finds_root c.own_found (c.root (strong_place z spot.0 spot.1)) })
+            (strong_place z spot.0 spot.1 + 1) refl (loaded (strong_place z spot.0 spot.1) spot.4 e none)
             (goes_by
-                (record c
-                  { job = Roots (strong_place z spot.0 spot.1 + 1); own_found = finds_root c.own_found (c.root (strong_place z spot.0 spot.1)) })
-                h.marking h.lanes refl tt (step_lawful z c Collector (LoadCell (StrongOf spot.0 spot.1)) may h.lawful)))
+            (record c
+            { job = Roots (strong_place z spot.0 spot.1 + 1); own_found = finds_root c.own_found (c.root (strong_place z spot.0 spot.1)) })
+            h.marking h.lanes refl tt (step_lawful z c Collector (LoadCell (StrongOf spot.0 spot.1)) may h.lawful)))
 
 -- ---- whatever the collector is at
 
@@ -487,9 +482,9 @@ lanes_closed z c some marking lanes goes h = go c.job refl
     stopped : (r w : ℕ) → c.job ≡ Look r w → LeadsToCommit z (record c { job = NoJob })
     stopped r w e =
         finished z (record c { job = NoJob }) some
-          (record
-            { marking = marking; lanes = lanes; goes = record { scans = goes.scans; roots = refl; looks = tt }; lawful = look_stopped z c r w e h })
-          refl
+        (record
+        { marking = marking; lanes = lanes; goes = record { scans = goes.scans; roots = refl; looks = tt }; lawful = look_stopped z c r w e h })
+        refl
 
     looked : LeadsToCommit z (record c { job = NoJob }) → LeadsToCommit z (record c { job = looked_all z })
     looked stop = pick (frames z c == 0) (c.dirty) refl refl

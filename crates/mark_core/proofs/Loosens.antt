@@ -13,9 +13,15 @@ use Rattle.mark_core.proofs.Makes.{live_same}
 -- the place v, so far without a unit, gets a marked one, and cells, root set and held units are what is given
 abbrev rewires : Core → ℕ → (ℕ → List ℕ) → (ℕ → Option ℕ) → (ℕ → Option ℕ) → (ℕ → ℕ → Bool) → Core
 rewires c v cells cell root holds =
-    record c
-      { doomed = set_at c.doomed v false; marked = set_at c.marked v true; cells = cells; cell = cell; root = root;
-        scanned = set_at c.scanned v false; holds = holds }
+    record c {
+      doomed = set_at c.doomed v false;
+      marked = set_at c.marked v true;
+      cells = cells;
+      cell = cell;
+      root = root;
+      scanned = set_at c.scanned v false;
+      holds = holds;
+    }
 
 -- each new reference is an old one to a unit in the world, or names the new unit; closed lanes hold nothing
 record Rewires (z : Sizes) (c : Core) (v : ℕ) (cells : ℕ → List ℕ) (cell : ℕ → Option ℕ) (root : ℕ → Option ℕ) (holds : ℕ → ℕ → Bool) : Type 0 where
@@ -41,8 +47,8 @@ rewired z c v cells cell root holds out lt dead new h = record {
     doomed_is = λ u off. (h.quiet out).places u;
     scanned_is =
         λ u.
-          at_set (λ b. b ≡ true → (c.place u ≡ Nowhere) × (set_at c.marked v true u ≡ true)) c.scanned v false u (λ e wrong. absurd cc)
-            (λ o done. let was = h.grey.scanned_is u done in (was.0, grows_one c.marked v u was.1));
+        at_set (λ b. b ≡ true → (c.place u ≡ Nowhere) × (set_at c.marked v true u ≡ true)) c.scanned v false u (λ e wrong. absurd cc)
+        (λ o done. let was = h.grey.scanned_is u done in (was.0, grows_one c.marked v u was.1));
   };
   black = λ m. absurd (out m);
   roots = λ m. absurd (out m);
@@ -99,7 +105,7 @@ renamed_was at u v names n t = go (names n) refl (at n)
 pub loosened : LooseningIsLawful
 loosened z c u v own left bit by_cell by_strong may h =
     rewired z c v (set_at (set_at c.cells u left) v own) (renames by_cell u v c.cell) (renames (λ p. (p == bit) || by_strong p) u v c.root)
-        (λ lane t. c.holds lane (cond (t == v) u t)) may.outside may.place may.free
+    (λ lane t. c.holds lane (cond (t == v) u t)) may.outside may.place may.free
     (record {
       to_live = λ w k t has_k e world. to_live w k t has_k world (renamed by_cell u v c.cell k t e);
       roots = λ p t e. (let was = renamed_was (λ q. (q == bit) || by_strong q) u v c.root p t e in (h.root_set p was.0 was.1).0, root p t (renamed (λ q. (q == bit) || by_strong q) u v c.root p t e));

@@ -60,9 +60,9 @@ made_sizes s h = record {
   holds_len = len_of s.holds s.shape.lanes (replicate s.shape.units false) h.holds;
   held_len =
       λ l lt.
-        ap (λ (xs : List (List Bool)). length (get_or xs l [])) h.holds
-          ∙ (ap (λ (xs : List Bool). length xs) (get_or-replicate s.shape.lanes l (replicate s.shape.units false) [] lt)
-            ∙ length-replicate s.shape.units false);
+      ap (λ (xs : List (List Bool)). length (get_or xs l [])) h.holds
+      ∙ (ap (λ (xs : List Bool). length xs) (get_or-replicate s.shape.lanes l (replicate s.shape.units false) [] lt)
+      ∙ length-replicate s.shape.units false);
   hand_len = len_of s.hand s.shape.lanes None h.hand;
   lane_owes_len = len_of s.lane_owes s.shape.lanes false h.lane_owes;
   scan_len = len_of s.scan s.shape.markers None h.scan;

@@ -45,8 +45,8 @@ made_lawful z c l u n on lt dead h = record {
     doomed_is = λ v. at_set (λ b. b ≡ true → c.place v ≡ Nowhere) c.doomed u false v (λ e wrong. absurd cc) (λ o. h.grey.doomed_is v);
     scanned_is =
         λ v.
-          at_set (λ b. b ≡ true → (c.place v ≡ Nowhere) × (set_at c.marked u true v ≡ true)) c.scanned u false v (λ e wrong. absurd cc)
-            (λ o done. let was = h.grey.scanned_is v done in (was.0, grows_one c.marked u v was.1));
+        at_set (λ b. b ≡ true → (c.place v ≡ Nowhere) × (set_at c.marked u true v ≡ true)) c.scanned u false v (λ e wrong. absurd cc)
+        (λ o done. let was = h.grey.scanned_is v done in (was.0, grows_one c.marked u v was.1));
   };
   black = λ m. record {
     black = λ v k t alive marked nowhere small e. black v k t m alive marked nowhere small e (same_or_not v u);
@@ -95,13 +95,13 @@ made_lawful z c l u n on lt dead h = record {
         → has (set_at c.cells u n v) k ≡ true → empties n c.cell k ≡ Some t → (v ≡ u) ⊎ (v ≡ u → ⊥) → set_at c.marked u true t ≡ true
     black v k t m alive marked nowhere own e (inl same) =
         absurd
-          (let new : has n k ≡ true = subst (λ (xs : List ℕ). has xs k ≡ true) (set_here c.cells u n v same) own in
-            let none = gone n c.cell k new in
-            cc)
+        (let new : has n k ≡ true = subst (λ (xs : List ℕ). has xs k ≡ true) (set_here c.cells u n v same) own in
+        let none = gone n c.cell k new in
+        cc)
     black v k t m alive marked nowhere own e (inr o) =
         grows_one c.marked u t
-            ((h.black m).black v k t (sym (set_there c.doomed u false v o) ∙ alive) (sym (set_there c.marked u true v o) ∙ marked) nowhere
-              (own_before v k t own e) (still n c.cell k t e))
+        ((h.black m).black v k t (sym (set_there c.doomed u false v o) ∙ alive) (sym (set_there c.marked u true v o) ∙ marked) nowhere
+        (own_before v k t own e) (still n c.cell k t e))
 
 -- all that making a unit does
 pub made : MakingIsLawful

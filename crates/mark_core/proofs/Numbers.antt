@@ -1,6 +1,5 @@
 -- The cells of a unit by number.
-use Rattle.std.proofs.Common.{◌≡◌, ℕ, ◌+◌, ◌*◌, ◌-◌, ◌/◌, ◌<◌, ◌≤◌, ◌==◌, ◌||◌, nat_lt, refl, sym, subst, ap, ◌∙◌, zero, suc, arith, rules, is_some,
-    not, Bool, cond, true, false, IsTrue, ◌↔◌, List, [], ◌∷◌, Option, Some, None}
+use Rattle.std.proofs.Common.{◌≡◌, ℕ, ◌+◌, ◌*◌, ◌-◌, ◌/◌, ◌<◌, ◌≤◌, ◌==◌, ◌||◌, nat_lt, refl, sym, subst, ap, ◌∙◌, zero, suc, arith, rules, is_some, not, Bool, cond, true, false, IsTrue, ◌↔◌, List, [], ◌∷◌, Option, Some, None}
 use Rattle.std.proofs.lemmas.Bool.{eq-eqb}
 use Rattle.std.proofs.lemmas.Nat.{div-mul-add}
 use Rattle.std.proofs.Math.Nat.{mul-le-mul_right}
@@ -52,8 +51,8 @@ pub may_use_cell : (z : Shape) (c : Core) (lane n unit cell : ℕ) (b : Bool) �
 may_use_cell z c lane n unit cell b own at is =
     let parts = cell_of_unit z n unit cell at in
     let has_it : has (c.cells unit) cell ≡ true =
-        ap (λ (f : ℕ → List ℕ). has (f unit) cell) own
-          ∙ (ap (λ (u : ℕ). has (own_cells z u) cell) parts.1 ∙ (ap (λ (k : ℕ). has (own_cells z (n / z.cells)) k) parts.2 ∙ has_own z n parts.0)) in
+    ap (λ (f : ℕ → List ℕ). has (f unit) cell) own
+    ∙ (ap (λ (u : ℕ). has (own_cells z u) cell) parts.1 ∙ (ap (λ (k : ℕ). has (own_cells z (n / z.cells)) k) parts.2 ∙ has_own z n parts.0)) in
     subst (λ (x : Cell). IsTrue b ↔ MayUse (sizes z) c lane x) at
     (λ t. (sym is ∙ on b t, has_it), λ may. off b (is ∙ may.0))
   where

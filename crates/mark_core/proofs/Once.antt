@@ -3,8 +3,7 @@ use Rattle.std.proofs.Common.{◌≡◌, ℕ, ◌+◌, ◌≤◌, ◌==◌, ◌&
 use Rattle.std.proofs.lemmas.Bool.{eqb-true}
 use Rattle.mark_core.specs.Changes.{is_empty}
 use Rattle.mark_core.specs.Machine.{Actor, Lane, Marker, Collector, CellOf, StrongOf, Nowhere, OnStack, Scan, Sizes, Core, same_place, frames}
-use Rattle.mark_core.specs.Steps.{Step, BeginExchange, Shade, SwapCell, LoadCell, CommitExchange, LoadHead, RootBit, is_found, behind, marks, goes_on,
-    moves_on, finds, starts, marker_loads, after_lane, after_marker, after_collector, after_step, AllAllowed, begins_by, commits_by}
+use Rattle.mark_core.specs.Steps.{Step, BeginExchange, Shade, SwapCell, LoadCell, CommitExchange, LoadHead, RootBit, is_found, behind, marks, goes_on, moves_on, finds, starts, marker_loads, after_lane, after_marker, after_collector, after_step, AllAllowed, begins_by, commits_by}
 use Rattle.mark_core.specs.Lawful.{Lawful}
 use Rattle.mark_core.specs.Start.{start}
 use Rattle.mark_core.specs.Progress.{ends, ends_scan, ends_at, ends_head, scanned_by, is_begin, count_on, scans}

@@ -84,8 +84,8 @@ nothing_grey z c at none clean h u = go (c.place u) refl
     go Nowhere e = e
     go (InRow r) e = let in_range = h.standing.rows u r e in
         absurd
-          (looked clean (λ l. h.lanes.owes_is l (lane_closed z c l none h)) (λ m. h.markers.owes_is m (marker_closed z c m none h)) u r e
-            (inl (omega arith)))
+        (looked clean (λ l. h.lanes.owes_is l (lane_closed z c l none h)) (λ m. h.markers.owes_is m (marker_closed z c m none h)) u r e
+        (inl (omega arith)))
     go (OnStack m) e = absurd (h.stacks_in m u (marker_closed z c m none h) e)
     go (UnderScan m) e = absurd (let s = h.standing.scans u m e in let is = s.1 in let nothing = h.markers.scan_is m (marker_closed z c m none h) in cc)
     go (InHand l) e = absurd (let has_u = h.standing.hands u l e in let nothing = h.lanes.hand_is l (lane_closed z c l none h) in cc)
@@ -120,8 +120,8 @@ committed z c true e at h =
           let both = and_true (not (c.doomed u)) (c.marked u) live in
           let alive : c.doomed u ≡ false = not_true (c.doomed u) both.0 in
           live_marked Gathering c.doomed c.marked v
-              (live_alive c.phase c.doomed c.marked v (h.cells u k v (live_marking c.phase c.doomed c.marked u work.0 alive) lt f))
-              ((h.black work.0).black u k v alive both.1 (nowhere u) lt f);
+          (live_alive c.phase c.doomed c.marked v (h.cells u k v (live_marking c.phase c.doomed c.marked u work.0 alive) lt f))
+          ((h.black work.0).black u k v alive both.1 (nowhere u) lt f);
       root_set = λ p v f. let was = h.root_set p v f in (was.0, live_marked Gathering c.doomed c.marked v (live_alive c.phase c.doomed c.marked v was.1) (marked p v f));
       held = λ l u f. absurd (let nothing = h.held_in l u (lane_closed z c l none h) in cc);
       found = record {
@@ -164,15 +164,15 @@ dooms z c u gathering white h =
     to v live =
         let on : c.marked v ≡ true = live_is_marked c.phase c.doomed c.marked v outside live in
         live_marked c.phase (set_at c.doomed u true) c.marked v
-            (set_there c.doomed u true v (λ e. absurd (let same : c.marked v ≡ c.marked u = ap c.marked e in cc))
-              ∙ live_alive c.phase c.doomed c.marked v live) on
+        (set_there c.doomed u true v (λ e. absurd (let same : c.marked v ≡ c.marked u = ap c.marked e in cc))
+        ∙ live_alive c.phase c.doomed c.marked v live) on
 
     from : (v : ℕ) → is_live c.phase (set_at c.doomed u true) c.marked v ≡ true → is_live c.phase c.doomed c.marked v ≡ true
     from v live =
         let on : c.marked v ≡ true = live_is_marked c.phase (set_at c.doomed u true) c.marked v outside live in
         live_marked c.phase c.doomed c.marked v
-            (sym (set_there c.doomed u true v (λ e. absurd (let same : c.marked v ≡ c.marked u = ap c.marked e in cc)))
-              ∙ live_alive c.phase (set_at c.doomed u true) c.marked v live) on
+        (sym (set_there c.doomed u true v (λ e. absurd (let same : c.marked v ≡ c.marked u = ap c.marked e in cc)))
+        ∙ live_alive c.phase (set_at c.doomed u true) c.marked v live) on
 
 no_job : (phase : Phase) (job : Job) (hand : Option ℕ) (found : ℕ → Bool) → (phase ≡ Marking → ⊥) → AtWork phase job hand found → AtWork Idle job hand found
 no_job phase NoJob hand found out h = h
@@ -200,7 +200,7 @@ settles z c gathering all h = record {
   root_set = subst (λ (p : Phase). RootsLive z p c.doomed c.marked c.root) gathering h.root_set;
   held = subst (λ (p : Phase). HeldLive p c.doomed c.marked c.holds) gathering h.held;
   found = let was : FoundLive Gathering c.doomed c.marked c.scan c.own_found =
-        subst (λ (p : Phase). FoundLive p c.doomed c.marked c.scan c.own_found) gathering h.found in
+      subst (λ (p : Phase). FoundLive p c.doomed c.marked c.scan c.own_found) gathering h.found in
       record { markers = was.markers; own = was.own };
   idle = λ e. all;
 }

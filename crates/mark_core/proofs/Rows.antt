@@ -15,15 +15,21 @@ pub record SameGrey (place next : ℕ → Place) : Type 0 where
 
 pub grey_regrouped : (d m s : ℕ → Bool) (place next : ℕ → Place) → SameGrey place next → AreGrey d m s place → AreGrey d m s next
 grey_regrouped d m s place next same h =
-    record { marked_is = λ u e. same.to u (h.marked_is u e); doomed_is = λ u e. same.to u (h.doomed_is u e);
-        scanned_is = λ u e. let was = h.scanned_is u e in
-      (same.to u was.0, was.1) }
+    record {
+      marked_is = λ u e. same.to u (h.marked_is u e);
+      doomed_is = λ u e. same.to u (h.doomed_is u e);
+      scanned_is = λ u e. let was = h.scanned_is u e in
+          (same.to u was.0, was.1);
+    }
 
 pub black_regrouped : (d m : ℕ → Bool) (place next : ℕ → Place) (cells : ℕ → List ℕ) (cell : ℕ → Option ℕ) (scan : ℕ → Option Scan)
     → SameGrey place next → AreBlack d m place cells cell scan → AreBlack d m next cells cell scan
 black_regrouped d m place next cells cell scan same h =
-    record { black = λ u k v alive marked nowhere lt e. h.black u k v alive marked (same.from u nowhere) lt e; passed = h.passed;
-      at_cursor = h.at_cursor }
+    record {
+      black = λ u k v alive marked nowhere lt e. h.black u k v alive marked (same.from u nowhere) lt e;
+      passed = h.passed;
+      at_cursor = h.at_cursor;
+    }
 
 -- a grey unit goes to another place
 pub moved : (place : ℕ → Place) (u : ℕ) (p : Place) → (place u ≡ Nowhere → ⊥) → (p ≡ Nowhere → ⊥) → SameGrey place (set_at place u p)
@@ -52,8 +58,8 @@ lane_adds z c l r u at le h =
         hand_is = λ k off. at_set (λ x. x ≡ None) c.hand l None k (λ e. refl) (λ n. h.lanes.hand_is k off);
         owes_is =
             λ k off.
-              at_set (λ x. x ≡ false) c.lane_owes l true k
-                (λ e. absurd (let empty = h.lanes.hand_is k off in let there : c.hand k ≡ c.hand l = ap c.hand e in cc)) (λ n. h.lanes.owes_is k off);
+            at_set (λ x. x ≡ false) c.lane_owes l true k
+            (λ e. absurd (let empty = h.lanes.hand_is k off in let there : c.hand k ≡ c.hand l = ap c.hand e in cc)) (λ n. h.lanes.owes_is k off);
       };
       markers = h.markers;
       held_in = h.held_in;
@@ -62,28 +68,28 @@ lane_adds z c l r u at le h =
         rows = λ v k. at_set (λ x. x ≡ InRow k → k ≤ z.markers) c.place u (InRow r) v (λ e here. row_range r k z.markers le here) (λ n. h.standing.rows v k);
         hands =
             λ v k.
-              at_set (λ x. x ≡ InHand k → set_at c.hand l None k ≡ Some v) c.place u (InRow r) v (λ e wrong. absurd cc)
-                (λ n there.
-                  at_set (λ x. x ≡ Some v) c.hand l None k
-                    (λ e. absurd (n (some_same v u (sym (h.standing.hands v k there) ∙ (ap c.hand e ∙ has_u)))))
-                    (λ other. h.standing.hands v k there));
+            at_set (λ x. x ≡ InHand k → set_at c.hand l None k ≡ Some v) c.place u (InRow r) v (λ e wrong. absurd cc)
+            (λ n there.
+            at_set (λ x. x ≡ Some v) c.hand l None k
+            (λ e. absurd (n (some_same v u (sym (h.standing.hands v k there) ∙ (ap c.hand e ∙ has_u)))))
+            (λ other. h.standing.hands v k there));
         own = λ v. at_set (λ x. x ≡ InCollector → c.own_hand ≡ Some v) c.place u (InRow r) v (λ e wrong. absurd cc) (λ n. h.standing.own v);
         in_hand = λ k v. at_set (λ x. x ≡ Some v → set_at c.place u (InRow r) v ≡ InHand k) c.hand l None k (λ e wrong. absurd cc)
             (λ n other.
-                at_set (λ x. x ≡ InHand k) c.place u (InRow r) v
-                  (λ e. absurd (n (in_hand_of l k (sym at ∙ (ap c.place (sym e) ∙ h.standing.in_hand k v other)))))
-                  (λ o. h.standing.in_hand k v other));
+            at_set (λ x. x ≡ InHand k) c.place u (InRow r) v
+            (λ e. absurd (n (in_hand_of l k (sym at ∙ (ap c.place (sym e) ∙ h.standing.in_hand k v other)))))
+            (λ o. h.standing.in_hand k v other));
         in_own =
             λ v other.
-              at_set (λ x. x ≡ InCollector) c.place u (InRow r) v
-                (λ e. absurd (let was = h.standing.in_own v other in let there : c.place v ≡ c.place u = ap c.place e in cc))
-                (λ o. h.standing.in_own v other);
+            at_set (λ x. x ≡ InCollector) c.place u (InRow r) v
+            (λ e. absurd (let was = h.standing.in_own v other in let there : c.place v ≡ c.place u = ap c.place e in cc))
+            (λ o. h.standing.in_own v other);
         scans = λ v k. at_set (λ x. x ≡ UnderScan k → (s : Scan) × (c.scan k ≡ Some s) × (s.unit ≡ v)) c.place u (InRow r) v (λ e wrong. absurd cc) (λ n. h.standing.scans v k);
         under =
             λ k s e.
-              at_set (λ x. x ≡ UnderScan k) c.place u (InRow r) s.unit
-                (λ same_unit. absurd (let was = h.standing.under k s e in let there : c.place s.unit ≡ c.place u = ap c.place same_unit in cc))
-                (λ n. h.standing.under k s e);
+            at_set (λ x. x ≡ UnderScan k) c.place u (InRow r) s.unit
+            (λ same_unit. absurd (let was = h.standing.under k s e in let there : c.place s.unit ≡ c.place u = ap c.place same_unit in cc))
+            (λ n. h.standing.under k s e);
       };
       grey = grey_regrouped c.doomed c.marked c.scanned c.place (set_at c.place u (InRow r)) same h.grey;
       black = λ m. black_regrouped c.doomed c.marked c.place (set_at c.place u (InRow r)) c.cells c.cell c.scan same (h.black m);
@@ -120,20 +126,20 @@ marker_adds z c m r u at le h =
         own = λ v. at_set (λ x. x ≡ InCollector → c.own_hand ≡ Some v) c.place u (InRow r) v (λ e wrong. absurd cc) (λ n. h.standing.own v);
         in_hand =
             λ k v other.
-              at_set (λ x. x ≡ InHand k) c.place u (InRow r) v
-                (λ e. absurd (let was = h.standing.in_hand k v other in let there : c.place v ≡ c.place u = ap c.place e in cc))
-                (λ o. h.standing.in_hand k v other);
+            at_set (λ x. x ≡ InHand k) c.place u (InRow r) v
+            (λ e. absurd (let was = h.standing.in_hand k v other in let there : c.place v ≡ c.place u = ap c.place e in cc))
+            (λ o. h.standing.in_hand k v other);
         in_own =
             λ v other.
-              at_set (λ x. x ≡ InCollector) c.place u (InRow r) v
-                (λ e. absurd (let was = h.standing.in_own v other in let there : c.place v ≡ c.place u = ap c.place e in cc))
-                (λ o. h.standing.in_own v other);
+            at_set (λ x. x ≡ InCollector) c.place u (InRow r) v
+            (λ e. absurd (let was = h.standing.in_own v other in let there : c.place v ≡ c.place u = ap c.place e in cc))
+            (λ o. h.standing.in_own v other);
         scans = λ v k. at_set (λ x. x ≡ UnderScan k → (s : Scan) × (c.scan k ≡ Some s) × (s.unit ≡ v)) c.place u (InRow r) v (λ e wrong. absurd cc) (λ n. h.standing.scans v k);
         under =
             λ k s e.
-              at_set (λ x. x ≡ UnderScan k) c.place u (InRow r) s.unit
-                (λ same_unit. absurd (let was = h.standing.under k s e in let there : c.place s.unit ≡ c.place u = ap c.place same_unit in cc))
-                (λ n. h.standing.under k s e);
+            at_set (λ x. x ≡ UnderScan k) c.place u (InRow r) s.unit
+            (λ same_unit. absurd (let was = h.standing.under k s e in let there : c.place s.unit ≡ c.place u = ap c.place same_unit in cc))
+            (λ n. h.standing.under k s e);
       };
       grey = grey_regrouped c.doomed c.marked c.scanned c.place (set_at c.place u (InRow r)) same h.grey;
       black = λ mm. black_regrouped c.doomed c.marked c.place (set_at c.place u (InRow r)) c.cells c.cell c.scan same (h.black mm);
@@ -178,16 +184,16 @@ collector_adds z c r u at le h =
         own = λ v. at_set (λ x. x ≡ InCollector → None ≡ Some v) c.place u (InRow r) v (λ e wrong. absurd cc) (λ n there. absurd (n (some_same v u (sym (h.standing.own v there) ∙ has_u))));
         in_hand =
             λ k v other.
-              at_set (λ x. x ≡ InHand k) c.place u (InRow r) v
-                (λ e. absurd (let was = h.standing.in_hand k v other in let there : c.place v ≡ c.place u = ap c.place e in cc))
-                (λ o. h.standing.in_hand k v other);
+            at_set (λ x. x ≡ InHand k) c.place u (InRow r) v
+            (λ e. absurd (let was = h.standing.in_hand k v other in let there : c.place v ≡ c.place u = ap c.place e in cc))
+            (λ o. h.standing.in_hand k v other);
         in_own = λ v wrong. absurd cc;
         scans = λ v k. at_set (λ x. x ≡ UnderScan k → (s : Scan) × (c.scan k ≡ Some s) × (s.unit ≡ v)) c.place u (InRow r) v (λ e wrong. absurd cc) (λ n. h.standing.scans v k);
         under =
             λ k s e.
-              at_set (λ x. x ≡ UnderScan k) c.place u (InRow r) s.unit
-                (λ same_unit. absurd (let was = h.standing.under k s e in let there : c.place s.unit ≡ c.place u = ap c.place same_unit in cc))
-                (λ n. h.standing.under k s e);
+            at_set (λ x. x ≡ UnderScan k) c.place u (InRow r) s.unit
+            (λ same_unit. absurd (let was = h.standing.under k s e in let there : c.place s.unit ≡ c.place u = ap c.place same_unit in cc))
+            (λ n. h.standing.under k s e);
       };
       grey = grey_regrouped c.doomed c.marked c.scanned c.place (set_at c.place u (InRow r)) same h.grey;
       black = λ m. black_regrouped c.doomed c.marked c.place (set_at c.place u (InRow r)) c.cells c.cell c.scan same (h.black m);
@@ -235,7 +241,7 @@ row_taken z c m r w opened h =
       work = h.work;
       looked =
           looked_fewer c.job c.dirty c.lane_owes c.marker_owes c.place (takes m r w c.place)
-            (λ v k. at_takes (λ x. x ≡ InRow k → c.place v ≡ InRow k) m r w c.place v (λ at wrong. absurd cc) (λ e. e)) h.looked;
+          (λ v k. at_takes (λ x. x ≡ InRow k → c.place v ≡ InRow k) m r w c.place v (λ at wrong. absurd cc) (λ e. e)) h.looked;
       cells = h.cells;
       root_set = h.root_set;
       held = h.held;

@@ -32,11 +32,11 @@ done-snoc old now next es e h may done =
     let split : steps_of z (es ++ e ∷ []) ≡ steps_of z es ++ (actor_of z e.0, step_of z e.1) ∷ [] = map-append (λ (x : ℕ × Event). (actor_of z x.0, step_of z x.1)) es (e ∷ []) in
     let may_shape : Allowed (sizes z) (state now) (actor_of z e.0) (step_of z e.1) = subst (λ (x : Shape). Allowed (sizes x) (state now) (actor_of x e.0) (step_of x e.1)) h.shape may in
     let may_run : Allowed (sizes z) (run (sizes z) (state old) (steps_of z es)) (actor_of z e.0) (step_of z e.1) =
-        subst (λ (c : Core). Allowed (sizes z) c (actor_of z e.0) (step_of z e.1)) h.state may_shape in
+    subst (λ (c : Core). Allowed (sizes z) c (actor_of z e.0) (step_of z e.1)) h.state may_shape in
     let step =
-        done.state
-          ∙ (ap (λ (x : Shape). after_step (sizes x) (state now) (actor_of x e.0) (step_of x e.1)) h.shape
-            ∙ ap (λ (c : Core). after_step (sizes z) c (actor_of z e.0) (step_of z e.1)) h.state) in
+    done.state
+    ∙ (ap (λ (x : Shape). after_step (sizes x) (state now) (actor_of x e.0) (step_of x e.1)) h.shape
+    ∙ ap (λ (c : Core). after_step (sizes z) c (actor_of z e.0) (step_of z e.1)) h.state) in
     record {
       allowed = subst (AllAllowed (sizes z) (state old)) (sym split) (allowed-snoc (sizes z) (state old) (steps_of z es) (actor_of z e.0, step_of z e.1) h.allowed may_run);
       state = step ∙ (sym (run-snoc (sizes z) (state old) (steps_of z es) (actor_of z e.0, step_of z e.1)) ∙ ap (run (sizes z) (state old)) (sym split));

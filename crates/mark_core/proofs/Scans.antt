@@ -44,8 +44,8 @@ left z c u scan marking at settled other h = record {
     in_own = λ v hand. at_set (λ x. x ≡ InCollector) c.place u Nowhere v (λ e. absurd (at.own (ap c.place (sym e) ∙ h.standing.in_own v hand))) (λ n. h.standing.in_own v hand);
     scans =
         λ v k.
-          at_set (λ x. x ≡ UnderScan k → (s : Scan) × (scan k ≡ Some s) × (s.unit ≡ v)) c.place u Nowhere v (λ e wrong. absurd cc)
-            (λ n at. let was = h.standing.scans v k at in (was.0, other.stays k was.0 was.1 (λ e. n (sym was.2 ∙ e)), was.2));
+        at_set (λ x. x ≡ UnderScan k → (s : Scan) × (scan k ≡ Some s) × (s.unit ≡ v)) c.place u Nowhere v (λ e wrong. absurd cc)
+        (λ n at. let was = h.standing.scans v k at in (was.0, other.stays k was.0 was.1 (λ e. n (sym was.2 ∙ e)), was.2));
     under = λ k s e. let was = other.was k s e in at_set (λ x. x ≡ UnderScan k) c.place u Nowhere s.unit (λ same. absurd (was.1 same)) (λ n. h.standing.under k s was.0);
   };
   grey = record {
@@ -67,7 +67,7 @@ left z c u scan marking at settled other h = record {
   work = h.work;
   looked =
       looked_fewer c.job c.dirty c.lane_owes c.marker_owes c.place (set_at c.place u Nowhere)
-        (λ v r. at_set (λ x. x ≡ InRow r → c.place v ≡ InRow r) c.place u Nowhere v (λ e wrong. absurd cc) (λ n e. e)) h.looked;
+      (λ v r. at_set (λ x. x ≡ InRow r → c.place v ≡ InRow r) c.place u Nowhere v (λ e wrong. absurd cc) (λ n e. e)) h.looked;
   cells = h.cells;
   root_set = h.root_set;
   held = h.held;
@@ -92,8 +92,8 @@ rescanned z c m s t at same marking passed cursor live own_left h = record {
   markers = record {
     scan_is =
         λ k off.
-          at_set (λ x. x ≡ None) c.scan m (Some t) k
-            (λ e. absurd (let none = h.markers.scan_is k off in let there : c.scan k ≡ c.scan m = ap c.scan e in cc)) (λ n. h.markers.scan_is k off);
+        at_set (λ x. x ≡ None) c.scan m (Some t) k
+        (λ e. absurd (let none = h.markers.scan_is k off in let there : c.scan k ≡ c.scan m = ap c.scan e in cc)) (λ n. h.markers.scan_is k off);
     owes_is = h.markers.owes_is;
   };
   held_in = h.held_in;
@@ -199,8 +199,8 @@ pub found_cell : (z : Sizes) (c : Core) (m u k : ℕ) (rest : List ℕ) (got : O
     → Lawful z c → Lawful z (finds c m (c.scan m) got)
 found_cell z c m u k rest None at own is marking h =
     subst (λ (o : Option Scan). Lawful z (moves_on c m o)) (sym at)
-        (went_on z c m (record { unit = u; left = k ∷ rest; found = None }) at marking
-          (λ i v more same e. absurd (let there : c.cell i ≡ c.cell k = ap c.cell (head_same k i rest more same) in cc)) h)
+    (went_on z c m (record { unit = u; left = k ∷ rest; found = None }) at marking
+    (λ i v more same e. absurd (let there : c.cell i ≡ c.cell k = ap c.cell (head_same k i rest more same) in cc)) h)
 found_cell z c m u k rest (Some t) at own is marking h =
     let at_u : c.place u ≡ UnderScan m = h.standing.under m (record { unit = u; left = k ∷ rest; found = None }) at in
     let alive : c.doomed u ≡ false = not_doomed at_u in
@@ -244,9 +244,9 @@ on_scan z c m u ns all none at marking opened h =
       beyond = h.beyond;
       scans_own = λ k q i. at_set (λ x. x ≡ Some q → has q.left i ≡ true → has (c.cells q.unit) i ≡ true) c.scan m (Some (record { unit = u; left = ns; found = None })) k
           (λ e now. let is : record { unit = u; left = ns; found = None } ≡ q =
-                some_same {A = Scan} (record { unit = u; left = ns; found = None }) q now in
-              subst (λ (x : Scan). has x.left i ≡ true → has (c.cells x.unit) i ≡ true) is
-                (λ on. subst (λ (xs : List ℕ). has xs i ≡ true) (sym all) on))
+          some_same {A = Scan} (record { unit = u; left = ns; found = None }) q now in
+          subst (λ (x : Scan). has x.left i ≡ true → has (c.cells x.unit) i ≡ true) is
+          (λ on. subst (λ (xs : List ℕ). has xs i ≡ true) (sym all) on))
           (λ n was. h.scans_own k q i was);
       open_in = h.open_in;
       lanes = h.lanes;
@@ -262,28 +262,30 @@ on_scan z c m u ns all none at marking opened h =
         own = λ v. at_set (λ x. x ≡ InCollector → c.own_hand ≡ Some v) c.place u (UnderScan m) v (λ e wrong. absurd cc) (λ n. h.standing.own v);
         in_hand =
             λ k v hand.
-              at_set (λ x. x ≡ InHand k) c.place u (UnderScan m) v
-                (λ e. absurd (let was = h.standing.in_hand k v hand in let there : c.place v ≡ c.place u = ap c.place e in cc))
-                (λ n. h.standing.in_hand k v hand);
+            at_set (λ x. x ≡ InHand k) c.place u (UnderScan m) v
+            (λ e. absurd (let was = h.standing.in_hand k v hand in let there : c.place v ≡ c.place u = ap c.place e in cc))
+            (λ n. h.standing.in_hand k v hand);
         in_own =
             λ v hand.
-              at_set (λ x. x ≡ InCollector) c.place u (UnderScan m) v
-                (λ e. absurd (let was = h.standing.in_own v hand in let there : c.place v ≡ c.place u = ap c.place e in cc))
-                (λ n. h.standing.in_own v hand);
+            at_set (λ x. x ≡ InCollector) c.place u (UnderScan m) v
+            (λ e. absurd (let was = h.standing.in_own v hand in let there : c.place v ≡ c.place u = ap c.place e in cc))
+            (λ n. h.standing.in_own v hand);
         scans = λ v k. at_set (λ x. x ≡ UnderScan k → (s : Scan) × (set_at c.scan m (Some (record { unit = u; left = ns; found = None })) k ≡ Some s) × (s.unit ≡ v)) c.place u (UnderScan m) v
             (λ e here. (record { unit = u; left = ns; found = None }, set_here c.scan m (Some (record { unit = u; left = ns; found = None })) k (under_of m k here), sym e))
-            (λ n there. let was = h.standing.scans v k there in
-                (was.0,
-                  set_there c.scan m (Some (record { unit = u; left = ns; found = None })) k
-                      (λ e. absurd (let some = was.1 in let same_scan : c.scan k ≡ c.scan m = ap c.scan e in cc)) ∙ was.1, was.2));
+            (λ n there. let was = h.standing.scans v k there in (
+              was.0,
+              set_there c.scan m (Some (record { unit = u; left = ns; found = None })) k
+                  (λ e. absurd (let some = was.1 in let same_scan : c.scan k ≡ c.scan m = ap c.scan e in cc)) ∙ was.1,
+              was.2,
+            ));
         under = λ k q. at_set (λ x. x ≡ Some q → set_at c.place u (UnderScan m) q.unit ≡ UnderScan k) c.scan m (Some (record { unit = u; left = ns; found = None })) k
             (λ e now. let is : record { unit = u; left = ns; found = None } ≡ q =
-                  some_same {A = Scan} (record { unit = u; left = ns; found = None }) q now in
-                set_here c.place u (UnderScan m) q.unit (ap (λ (x : Scan). x.unit) (sym is)) ∙ ap UnderScan (sym e))
+            some_same {A = Scan} (record { unit = u; left = ns; found = None }) q now in
+            set_here c.place u (UnderScan m) q.unit (ap (λ (x : Scan). x.unit) (sym is)) ∙ ap UnderScan (sym e))
             (λ n was.
-                at_set (λ x. x ≡ UnderScan k) c.place u (UnderScan m) q.unit
-                  (λ e. absurd (let under = h.standing.under k q was in let there : c.place q.unit ≡ c.place u = ap c.place e in cc))
-                  (λ o. h.standing.under k q was));
+            at_set (λ x. x ≡ UnderScan k) c.place u (UnderScan m) q.unit
+            (λ e. absurd (let under = h.standing.under k q was in let there : c.place q.unit ≡ c.place u = ap c.place e in cc))
+            (λ o. h.standing.under k q was));
       };
       grey = grey_regrouped c.doomed c.marked c.scanned c.place (set_at c.place u (UnderScan m)) same h.grey;
       black = λ mm. record {
@@ -304,7 +306,7 @@ on_scan z c m u ns all none at marking opened h =
       work = h.work;
       looked =
           looked_fewer c.job c.dirty c.lane_owes c.marker_owes c.place (set_at c.place u (UnderScan m))
-            (λ v r. at_set (λ x. x ≡ InRow r → c.place v ≡ InRow r) c.place u (UnderScan m) v (λ e wrong. absurd cc) (λ n e. e)) h.looked;
+          (λ v r. at_set (λ x. x ≡ InRow r → c.place v ≡ InRow r) c.place u (UnderScan m) v (λ e wrong. absurd cc) (λ n e. e)) h.looked;
       cells = h.cells;
       root_set = h.root_set;
       held = h.held;
@@ -327,7 +329,7 @@ started z c m u none at marking h = go (c.cells u) refl
     go : (ns : List ℕ) → c.cells u ≡ ns → Lawful z (starts c m u ns)
     go [] e =
         left z c u c.scan marking (record { grey_u = λ none. absurd cc; hand = λ l hand. absurd cc; own = λ hand. absurd cc })
-            (λ k v own cell. absurd (let nothing : has [] k ≡ true = subst (λ (xs : List ℕ). has xs k ≡ true) e own in cc))
+        (λ k v own cell. absurd (let nothing : has [] k ≡ true = subst (λ (xs : List ℕ). has xs k ≡ true) e own in cc))
         (record {
           was = λ k s e. (e, λ same. absurd (let under = h.standing.under k s e in let there : c.place s.unit ≡ c.place u = ap c.place same in cc));
           stays = λ k s e n. e;

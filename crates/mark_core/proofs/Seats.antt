@@ -134,8 +134,8 @@ gained z c l (Some u) on live h = record {
   root_set = h.root_set;
   held =
       λ k v.
-        at_set_in (λ b. b ≡ true → is_live c.phase c.doomed c.marked v ≡ true) c.holds l u true k v
-          (λ e f t. subst (λ (x : ℕ). is_live c.phase c.doomed c.marked x ≡ true) (sym f) live) (h.held k v);
+      at_set_in (λ b. b ≡ true → is_live c.phase c.doomed c.marked v ≡ true) c.holds l u true k v
+      (λ e f t. subst (λ (x : ℕ). is_live c.phase c.doomed c.marked x ≡ true) (sym f) live) (h.held k v);
   found = h.found;
   idle = h.idle;
 }

@@ -1,6 +1,5 @@
 -- Numbers come into a set and go.
-use Rattle.std.proofs.Common.{◌≡◌, ℕ, ◌+◌, ◌<◌, ◌≤◌, ◌^◌, ◌==◌, ◌-◌, refl, sym, subst, ap, ◌∙◌, inl, inr, zero, suc, arith, Bool, cond, true, false,
-    not, IsTrue, ◌↔◌, nat_eq, rules, List, [], ◌∷◌, ◌⊎◌, length, map, replicate}
+use Rattle.std.proofs.Common.{◌≡◌, ℕ, ◌+◌, ◌<◌, ◌≤◌, ◌^◌, ◌==◌, ◌-◌, refl, sym, subst, ap, ◌∙◌, inl, inr, zero, suc, arith, Bool, cond, true, false, not, IsTrue, ◌↔◌, nat_eq, rules, List, [], ◌∷◌, ◌⊎◌, length, map, replicate}
 use mathlib.Core.Bool.{beq}
 use Rattle.std.proofs.Math.Path.{fun_ext}
 use Rattle.std.proofs.Math.ListN.{get_or, set, length-set}
@@ -114,7 +113,7 @@ count_none bits (suc n) = go (get_or (map (λ (b : Bool). false) bits) n false) 
 
     go : (b : Bool) → b ≡ false → count_below (λ k. get_or (map (λ (x : Bool). false) bits) k false) n ≡ 0
         → cond b (suc (count_below (λ k. get_or (map (λ (x : Bool). false) bits) k false) n))
-            (count_below (λ k. get_or (map (λ (x : Bool). false) bits) k false) n) ≡ 0
+        (count_below (λ k. get_or (map (λ (x : Bool). false) bits) k false) n) ≡ 0
     go true e h = absurd cc
     go false e h = h
 

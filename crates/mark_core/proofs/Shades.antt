@@ -26,9 +26,10 @@ grey_shaded : (d m s : ℕ → Bool) (place : ℕ → Place) (u : ℕ) (p : Plac
 grey_shaded d m s place u p white alive h = record {
   marked_is = λ v off. at_set (λ x. x ≡ Nowhere) place u p v (λ e. absurd (let now = set_here m u true v e in cc)) (λ n. h.marked_is v (sym (set_there m u true v n) ∙ off));
   doomed_is = λ v dead. at_set (λ x. x ≡ Nowhere) place u p v (λ e. absurd (let there : d v ≡ d u = ap d e in cc)) (λ n. h.doomed_is v dead);
-  scanned_is = λ v done. let was = h.scanned_is v done in
-      (at_set (λ x. x ≡ Nowhere) place u p v (λ e. absurd (let there : m v ≡ m u = ap m e in let marked = was.1 in cc)) (λ n. was.0),
-        grows_one m u v was.1);
+  scanned_is = λ v done. let was = h.scanned_is v done in (
+    at_set (λ x. x ≡ Nowhere) place u p v (λ e. absurd (let there : m v ≡ m u = ap m e in let marked = was.1 in cc)) (λ n. was.0),
+    grows_one m u v was.1,
+  );
 }
 
 black_shaded : (d m : ℕ → Bool) (place : ℕ → Place) (cells : ℕ → List ℕ) (cell : ℕ → Option ℕ) (scan : ℕ → Option Scan) (u : ℕ) (p : Place)
@@ -76,7 +77,7 @@ whitened z c u p hand own marking white alive stands no_row lanes stacks standin
       work = work;
       looked =
           looked_fewer c.job c.dirty c.lane_owes c.marker_owes c.place (set_at c.place u p)
-            (λ v r. at_set (λ x. x ≡ InRow r → c.place v ≡ InRow r) c.place u p v (λ e wrong. absurd (no_row r wrong)) (λ n e. e)) h.looked;
+          (λ v r. at_set (λ x. x ≡ InRow r → c.place v ≡ InRow r) c.place u p v (λ e wrong. absurd (no_row r wrong)) (λ n e. e)) h.looked;
       cells = cells_grow c.phase c.doomed c.marked (set_at c.marked u true) marking grows c.cells c.cell h.cells;
       root_set = λ q v e. let was = h.root_set q v e in (was.0, live_grows c.phase c.doomed c.marked (set_at c.marked u true) grows v was.1);
       held = λ l v e. live_grows c.phase c.doomed c.marked (set_at c.marked u true) grows v (h.held l v e);
@@ -150,40 +151,40 @@ lane_shades z c l u free marking alive h = go (c.marked u) refl
           hands = λ v k. at_set (λ x. x ≡ InHand k → set_at c.hand l (Some u) k ≡ Some v) c.place u (InHand l) v
               (λ e own. set_here c.hand l (Some u) k (in_hand_of l k own) ∙ ap (λ (x : ℕ). Some x) (sym e))
               (λ n there.
-                  at_set (λ x. x ≡ Some v) c.hand l (Some u) k
-                    (λ e.
-                      absurd (let has_v = h.standing.hands v k there in let same : c.hand k ≡ c.hand l = ap c.hand e in let empty = free.hand in cc))
-                    (λ other. h.standing.hands v k there));
+              at_set (λ x. x ≡ Some v) c.hand l (Some u) k
+              (λ e.
+              absurd (let has_v = h.standing.hands v k there in let same : c.hand k ≡ c.hand l = ap c.hand e in let empty = free.hand in cc))
+              (λ other. h.standing.hands v k there));
           own = λ v. at_set (λ x. x ≡ InCollector → c.own_hand ≡ Some v) c.place u (InHand l) v (λ e wrong. absurd cc) (λ n. h.standing.own v);
           in_hand = λ k v. at_set (λ x. x ≡ Some v → set_at c.place u (InHand l) v ≡ InHand k) c.hand l (Some u) k
               (λ e mine. set_here c.place u (InHand l) v (sym (some_same u v mine)) ∙ ap InHand (sym e))
               (λ n other.
-                  at_set (λ x. x ≡ InHand k) c.place u (InHand l) v
-                    (λ e.
-                      absurd
-                        (let was = h.standing.in_hand k v other in
-                          let none = h.grey.marked_is u white in
-                          let at : c.place v ≡ c.place u = ap c.place e in
-                          cc)) (λ o. h.standing.in_hand k v other));
+              at_set (λ x. x ≡ InHand k) c.place u (InHand l) v
+              (λ e.
+              absurd
+              (let was = h.standing.in_hand k v other in
+              let none = h.grey.marked_is u white in
+              let at : c.place v ≡ c.place u = ap c.place e in
+              cc)) (λ o. h.standing.in_hand k v other));
           in_own =
               λ v other.
-                at_set (λ x. x ≡ InCollector) c.place u (InHand l) v
-                  (λ e.
-                    absurd
-                      (let was = h.standing.in_own v other in
-                        let none = h.grey.marked_is u white in
-                        let at : c.place v ≡ c.place u = ap c.place e in
-                        cc)) (λ o. h.standing.in_own v other);
+              at_set (λ x. x ≡ InCollector) c.place u (InHand l) v
+              (λ e.
+              absurd
+              (let was = h.standing.in_own v other in
+              let none = h.grey.marked_is u white in
+              let at : c.place v ≡ c.place u = ap c.place e in
+              cc)) (λ o. h.standing.in_own v other);
           scans = λ v m. at_set (λ x. x ≡ UnderScan m → (s : Scan) × (c.scan m ≡ Some s) × (s.unit ≡ v)) c.place u (InHand l) v (λ e wrong. absurd cc) (λ n. h.standing.scans v m);
           under =
               λ m s e.
-                at_set (λ x. x ≡ UnderScan m) c.place u (InHand l) s.unit
-                  (λ same.
-                    absurd
-                      (let was = h.standing.under m s e in
-                        let none = h.grey.marked_is u white in
-                        let at : c.place s.unit ≡ c.place u = ap c.place same in
-                        cc)) (λ n. h.standing.under m s e);
+              at_set (λ x. x ≡ UnderScan m) c.place u (InHand l) s.unit
+              (λ same.
+              absurd
+              (let was = h.standing.under m s e in
+              let none = h.grey.marked_is u white in
+              let at : c.place s.unit ≡ c.place u = ap c.place same in
+              cc)) (λ n. h.standing.under m s e);
         })
         h.work h
 
@@ -203,32 +204,32 @@ marker_shades z c m u opened marking alive h = go (c.marked u) refl
           own = λ v. at_set (λ x. x ≡ InCollector → c.own_hand ≡ Some v) c.place u (OnStack m) v (λ e wrong. absurd cc) (λ n. h.standing.own v);
           in_hand =
               λ k v other.
-                at_set (λ x. x ≡ InHand k) c.place u (OnStack m) v
-                  (λ e.
-                    absurd
-                      (let was = h.standing.in_hand k v other in
-                        let none = h.grey.marked_is u white in
-                        let at : c.place v ≡ c.place u = ap c.place e in
-                        cc)) (λ o. h.standing.in_hand k v other);
+              at_set (λ x. x ≡ InHand k) c.place u (OnStack m) v
+              (λ e.
+              absurd
+              (let was = h.standing.in_hand k v other in
+              let none = h.grey.marked_is u white in
+              let at : c.place v ≡ c.place u = ap c.place e in
+              cc)) (λ o. h.standing.in_hand k v other);
           in_own =
               λ v other.
-                at_set (λ x. x ≡ InCollector) c.place u (OnStack m) v
-                  (λ e.
-                    absurd
-                      (let was = h.standing.in_own v other in
-                        let none = h.grey.marked_is u white in
-                        let at : c.place v ≡ c.place u = ap c.place e in
-                        cc)) (λ o. h.standing.in_own v other);
+              at_set (λ x. x ≡ InCollector) c.place u (OnStack m) v
+              (λ e.
+              absurd
+              (let was = h.standing.in_own v other in
+              let none = h.grey.marked_is u white in
+              let at : c.place v ≡ c.place u = ap c.place e in
+              cc)) (λ o. h.standing.in_own v other);
           scans = λ v k. at_set (λ x. x ≡ UnderScan k → (s : Scan) × (c.scan k ≡ Some s) × (s.unit ≡ v)) c.place u (OnStack m) v (λ e wrong. absurd cc) (λ n. h.standing.scans v k);
           under =
               λ k s e.
-                at_set (λ x. x ≡ UnderScan k) c.place u (OnStack m) s.unit
-                  (λ same.
-                    absurd
-                      (let was = h.standing.under k s e in
-                        let none = h.grey.marked_is u white in
-                        let at : c.place s.unit ≡ c.place u = ap c.place same in
-                        cc)) (λ n. h.standing.under k s e);
+              at_set (λ x. x ≡ UnderScan k) c.place u (OnStack m) s.unit
+              (λ same.
+              absurd
+              (let was = h.standing.under k s e in
+              let none = h.grey.marked_is u white in
+              let at : c.place s.unit ≡ c.place u = ap c.place same in
+              cc)) (λ n. h.standing.under k s e);
         })
         h.work h
 
@@ -254,23 +255,23 @@ collector_shades z c u p at_roots empty marking alive h = go (c.marked u) refl
           own = λ v. at_set (λ x. x ≡ InCollector → Some u ≡ Some v) c.place u InCollector v (λ e here. ap (λ (x : ℕ). Some x) (sym e)) (λ n there. absurd (let has_v = h.standing.own v there in cc));
           in_hand =
               λ k v other.
-                at_set (λ x. x ≡ InHand k) c.place u InCollector v
-                  (λ e.
-                    absurd
-                      (let was = h.standing.in_hand k v other in
-                        let none = h.grey.marked_is u white in
-                        let at : c.place v ≡ c.place u = ap c.place e in
-                        cc)) (λ o. h.standing.in_hand k v other);
+              at_set (λ x. x ≡ InHand k) c.place u InCollector v
+              (λ e.
+              absurd
+              (let was = h.standing.in_hand k v other in
+              let none = h.grey.marked_is u white in
+              let at : c.place v ≡ c.place u = ap c.place e in
+              cc)) (λ o. h.standing.in_hand k v other);
           in_own = λ v mine. set_here c.place u InCollector v (sym (some_same u v mine));
           scans = λ v k. at_set (λ x. x ≡ UnderScan k → (s : Scan) × (c.scan k ≡ Some s) × (s.unit ≡ v)) c.place u InCollector v (λ e wrong. absurd cc) (λ n. h.standing.scans v k);
           under =
               λ k s e.
-                at_set (λ x. x ≡ UnderScan k) c.place u InCollector s.unit
-                  (λ same.
-                    absurd
-                      (let was = h.standing.under k s e in
-                        let none = h.grey.marked_is u white in
-                        let at : c.place s.unit ≡ c.place u = ap c.place same in
-                        cc)) (λ n. h.standing.under k s e);
+              at_set (λ x. x ≡ UnderScan k) c.place u InCollector s.unit
+              (λ same.
+              absurd
+              (let was = h.standing.under k s e in
+              let none = h.grey.marked_is u white in
+              let at : c.place s.unit ≡ c.place u = ap c.place same in
+              cc)) (λ n. h.standing.under k s e);
         })
         (work_at_roots c.phase c.job p c.own_hand (Some u) c.own_found c.own_found at_roots h.work) h

@@ -72,13 +72,13 @@ flag_written places stacks u p m b flags lt small of is on others h =
     here : (k : ℕ) → k < length stacks → (k ≡ m) ⊎ (k ≡ m → ⊥) → get_or (get_or (set stacks m flags) k []) u false ≡ same_place p (OnStack k)
     here k in_stacks (inl e) =
         ap (λ (xs : List Bool). get_or xs u false) (this k e ∙ is)
-          ∙ (get_or-set_at (get_or stacks m []) u u b false refl long ∙ (sym on ∙ ap (λ (x : ℕ). same_place p (OnStack x)) (sym e)))
+        ∙ (get_or-set_at (get_or stacks m []) u u b false refl long ∙ (sym on ∙ ap (λ (x : ℕ). same_place p (OnStack x)) (sym e)))
     here k in_stacks (inr n) = ap (λ (xs : List Bool). get_or xs u false) (that k n) ∙ others k in_stacks n
 
     there : (k v : ℕ) → (v ≡ u → ⊥) → (k ≡ m) ⊎ (k ≡ m → ⊥) → get_or (get_or (set stacks m flags) k []) v false ≡ get_or (get_or stacks k []) v false
     there k v n (inl e) =
         ap (λ (xs : List Bool). get_or xs v false) (this k e ∙ is)
-          ∙ (get_or-set_other (get_or stacks m []) u v b false n ∙ ap (λ (x : ℕ). get_or (get_or stacks x []) v false) (sym e))
+        ∙ (get_or-set_other (get_or stacks m []) u v b false n ∙ ap (λ (x : ℕ). get_or (get_or stacks x []) v false) (sym e))
     there k v n (inr o) = ap (λ (xs : List Bool). get_or xs v false) (that k o)
 
 pub stack_left : (places : List Place) (stacks : List (List Bool)) (u m : ℕ) (flags : List Bool) → u < length places

@@ -19,8 +19,15 @@ start_lawful z cells = record {
   held_in = λ l u off. refl;
   stacks_in = λ m u off wrong. absurd cc;
   standing =
-      record { rows = λ u r wrong. absurd cc; hands = λ u l wrong. absurd cc; own = λ u wrong. absurd cc; in_hand = λ l u wrong. absurd cc;
-        in_own = λ u wrong. absurd cc; scans = λ u m wrong. absurd cc; under = λ m s wrong. absurd cc };
+      record {
+        rows = λ u r wrong. absurd cc;
+        hands = λ u l wrong. absurd cc;
+        own = λ u wrong. absurd cc;
+        in_hand = λ l u wrong. absurd cc;
+        in_own = λ u wrong. absurd cc;
+        scans = λ u m wrong. absurd cc;
+        under = λ m s wrong. absurd cc;
+      };
   grey = record { marked_is = λ u e. refl; doomed_is = λ u e. refl; scanned_is = λ u wrong. absurd cc };
   black = λ m. absurd cc;
   roots = λ m. absurd cc;
@@ -48,8 +55,15 @@ bare_lawful z marked cells = record {
   held_in = λ l u off. refl;
   stacks_in = λ m u off wrong. absurd cc;
   standing =
-      record { rows = λ u r wrong. absurd cc; hands = λ u l wrong. absurd cc; own = λ u wrong. absurd cc; in_hand = λ l u wrong. absurd cc;
-        in_own = λ u wrong. absurd cc; scans = λ u m wrong. absurd cc; under = λ m s wrong. absurd cc };
+      record {
+        rows = λ u r wrong. absurd cc;
+        hands = λ u l wrong. absurd cc;
+        own = λ u wrong. absurd cc;
+        in_hand = λ l u wrong. absurd cc;
+        in_own = λ u wrong. absurd cc;
+        scans = λ u m wrong. absurd cc;
+        under = λ m s wrong. absurd cc;
+      };
   grey = record { marked_is = λ u e. refl; doomed_is = λ u e. refl; scanned_is = λ u wrong. absurd cc };
   black = λ m. absurd cc;
   roots = λ m. absurd cc;

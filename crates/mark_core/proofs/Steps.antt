@@ -3,12 +3,8 @@ use Rattle.std.proofs.Common.{◌≡◌, ℕ, ◌+◌, ◌*◌, ◌<◌, ◌≤�
 use Rattle.std.proofs.Math.Nat.{mul-le-mul_right, suc-mul}
 use Rattle.std.proofs.lemmas.Bool.{eqb-true, eq-eqb}
 use Rattle.mark_core.specs.Changes.{set_at}
-use Rattle.mark_core.specs.Machine.{Phase, Idle, Marking, Gathering, Lane, Marker, Collector, CellOf, StrongOf, Place, Nowhere, InRow, OnStack,
-    InCollector, Scan, Job, NoJob, Roots, Look, Sizes, strong_place, root_places, frames, Core, same_place}
-use Rattle.mark_core.specs.Steps.{Step, FrameOpen, FrameClose, BeginExchange, Shade, SwapCell, LoadCell, AddRow, TakeRow, SetDirty, ClearDirty,
-    LoadRow, CommitExchange, LoadHead, DoomHead, Settle, RootBit, is_live, MayStore, found_of, is_found, behind, is_roots, no_stack, no_white,
-    LaneMay, MarkerMay, CollectorMay, gains, marks, goes_on, moves_on, finds, starts, marker_loads, only_scans, finds_root, after_lane, after_marker,
-    after_collector, after_step}
+use Rattle.mark_core.specs.Machine.{Phase, Idle, Marking, Gathering, Lane, Marker, Collector, CellOf, StrongOf, Place, Nowhere, InRow, OnStack, InCollector, Scan, Job, NoJob, Roots, Look, Sizes, strong_place, root_places, frames, Core, same_place}
+use Rattle.mark_core.specs.Steps.{Step, FrameOpen, FrameClose, BeginExchange, Shade, SwapCell, LoadCell, AddRow, TakeRow, SetDirty, ClearDirty, LoadRow, CommitExchange, LoadHead, DoomHead, Settle, RootBit, is_live, MayStore, found_of, is_found, behind, is_roots, no_stack, no_white, LaneMay, MarkerMay, CollectorMay, gains, marks, goes_on, moves_on, finds, starts, marker_loads, only_scans, finds_root, after_lane, after_marker, after_collector, after_step}
 use Rattle.mark_core.specs.Lawful.{Lawful}
 use Rattle.mark_core.specs.Laws.{StepsStayLawful, EventsStayLawful}
 use Rattle.mark_core.proofs.Tools.{set_here, same_place_true, live_alive, in_or_beyond}
@@ -94,7 +90,7 @@ lane_step z c l (LoadCell (CellOf u k)) lt may h =
     gained z c l (c.cell k) may.0.opened (if_some (λ v. is_live c.phase c.doomed c.marked v ≡ true) (c.cell k) (λ v e. h.cells u k v (h.held l u may.1.0) may.1.1 e)) h
 lane_step z c l (LoadCell (StrongOf of n)) lt may h =
     gained z c l (c.root (strong_place z of n)) may.0.opened
-        (if_some (λ v. is_live c.phase c.doomed c.marked v ≡ true) (c.root (strong_place z of n)) (λ v e. (h.root_set (strong_place z of n) v e).1)) h
+    (if_some (λ v. is_live c.phase c.doomed c.marked v ≡ true) (c.root (strong_place z of n)) (λ v e. (h.root_set (strong_place z of n) v e).1)) h
 lane_step z c l (AddRow r u) lt may h = lane_adds z c l r u may.0 (let e = may.1 in omega arith) h
 lane_step z c l SetDirty lt may h = lane_dirties z c l may h
 lane_step z c l (LoadRow r w) lt may h = h
@@ -168,7 +164,7 @@ marker_step z c m FrameClose lt may h = marker_closed z c m may.1 may.2 (stack_n
 marker_step z c m (Shade u) lt may h = subst (Lawful z) (moves_only (marks c u (OnStack m)) m (c.scan m)) (marker_shade z c m u (c.scan m) refl may.0 may.1 h)
 marker_step z c m (LoadCell (CellOf u k)) lt may h =
     subst (Lawful z) (finds_only c m (c.scan m) (c.cell k))
-      (found_cell z c m u k may.0 (c.cell k) may.1 may.2 refl (scan_marking z c m (record { unit = u; left = k ∷ may.0; found = None }) may.1 h) h)
+    (found_cell z c m u k may.0 (c.cell k) may.1 may.2 refl (scan_marking z c m (record { unit = u; left = k ∷ may.0; found = None }) may.1 h) h)
 marker_step z c m (LoadCell (StrongOf of n)) lt may h = absurd may
 marker_step z c m (AddRow r u) lt may h = marker_adds z c m r u may.0 (let e = may.1 in omega arith) h
 marker_step z c m (TakeRow r w) lt may h = row_taken z c m r w may.0 h
@@ -193,7 +189,7 @@ collector_step z c (Shade u) may h =
     (root_settled z (record (marks c u InCollector) { own_hand = cond (c.marked u) c.own_hand (Some u) }) u at.0 at.1 (set_here c.marked u true u refl) shaded)
 collector_step z c (LoadCell (StrongOf of n)) may h =
     rested z (record c { job = Roots (strong_place z of n + 1); own_found = finds_root c.own_found (c.root (strong_place z of n)) })
-      (root_loaded z c (strong_place z of n) may.0 h)
+    (root_loaded z c (strong_place z of n) may.0 h)
 collector_step z c (LoadCell (CellOf u k)) may h = absurd may
 collector_step z c (AddRow r u) may h = rested z (record c { place = set_at c.place u (InRow r); own_hand = None }) (collector_adds z c r u may.0 (let e = may.1 in omega arith) h)
 collector_step z c ClearDirty may h = look_begun z c may.0 may.1 h

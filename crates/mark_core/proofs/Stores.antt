@@ -34,8 +34,8 @@ stores z c k to may h = record {
     passed = λ n s i v e own other. at_set (λ x. x ≡ Some v → c.marked v ≡ true) c.cell k to i (λ e2. marked_stored c to v m may) (λ o. (h.black m).passed n s i v e own other);
     at_cursor =
         λ n s i rest t v e is f.
-          at_set (λ x. x ≡ Some v → (c.marked v ≡ true) ⊎ (v ≡ t)) c.cell k to i (λ e2 g. inl (marked_stored c to v m may g))
-            (λ o. (h.black m).at_cursor n s i rest t v e is f);
+        at_set (λ x. x ≡ Some v → (c.marked v ≡ true) ⊎ (v ≡ t)) c.cell k to i (λ e2 g. inl (marked_stored c to v m may g))
+        (λ o. (h.black m).at_cursor n s i rest t v e is f);
   };
   roots = h.roots;
   quiet = h.quiet;
@@ -67,8 +67,8 @@ roots_set z c p to in_range may h = record {
   cells = h.cells;
   root_set =
       λ q v.
-        at_set (λ x. x ≡ Some v → (q < root_places z) × (is_live c.phase c.doomed c.marked v ≡ true)) c.root p to q
-          (λ e f. (subst (λ (x : ℕ). x < root_places z) (sym e) in_range, live_stored c to v may f)) (λ n. h.root_set q v);
+      at_set (λ x. x ≡ Some v → (q < root_places z) × (is_live c.phase c.doomed c.marked v ≡ true)) c.root p to q
+      (λ e f. (subst (λ (x : ℕ). x < root_places z) (sym e) in_range, live_stored c to v may f)) (λ n. h.root_set q v);
   held = h.held;
   found = h.found;
   idle = h.idle;

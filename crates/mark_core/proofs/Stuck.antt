@@ -1,12 +1,8 @@
 -- Each event leaves everybody something to do.
-use Rattle.std.proofs.Common.{◌≡◌, ℕ, ◌+◌, ◌<◌, ◌≤◌, ◌==◌, ◌&&◌, nat_lt, nat_le, refl, sym, ap, ◌∙◌, subst, inl, inr, arith, rules, Bool, cond, true,
-    false, not, is_none, List, [], ◌∷◌, Option, Some, None}
+use Rattle.std.proofs.Common.{◌≡◌, ℕ, ◌+◌, ◌<◌, ◌≤◌, ◌==◌, ◌&&◌, nat_lt, nat_le, refl, sym, ap, ◌∙◌, subst, inl, inr, arith, rules, Bool, cond, true, false, not, is_none, List, [], ◌∷◌, Option, Some, None}
 use Rattle.mark_core.specs.Changes.{set_at, is_empty}
-use Rattle.mark_core.specs.Machine.{Actor, Lane, Marker, Collector, CellOf, StrongOf, OnStack, Scan, Job, NoJob, Roots, Look, Sizes, root_places,
-    words, Core, same_place, frames, InRow, InCollector, strong_place}
-use Rattle.mark_core.specs.Steps.{Step, BeginExchange, Shade, SwapCell, LoadCell, AddRow, ClearDirty, LoadRow, CommitExchange, LoadHead, DoomHead,
-    Settle, RootBit, behind, marks, goes_on, moves_on, finds, starts, is_found, marker_loads, roots_done, finds_root, none_set, is_zero_word,
-    next_word, looks, first_look, looked_all, begins_by, commits_by, Allowed, CollectorMay, after_lane, after_marker, after_collector, after_step}
+use Rattle.mark_core.specs.Machine.{Actor, Lane, Marker, Collector, CellOf, StrongOf, OnStack, Scan, Job, NoJob, Roots, Look, Sizes, root_places, words, Core, same_place, frames, InRow, InCollector, strong_place}
+use Rattle.mark_core.specs.Steps.{Step, BeginExchange, Shade, SwapCell, LoadCell, AddRow, ClearDirty, LoadRow, CommitExchange, LoadHead, DoomHead, Settle, RootBit, behind, marks, goes_on, moves_on, finds, starts, is_found, marker_loads, roots_done, finds_root, none_set, is_zero_word, next_word, looks, first_look, looked_all, begins_by, commits_by, Allowed, CollectorMay, after_lane, after_marker, after_collector, after_step}
 use Rattle.mark_core.specs.GoesOn.{LooksInRange, GoesOn, NobodyIsStuck}
 use Rattle.mark_core.proofs.Tools.{at_set, some_same}
 
@@ -18,7 +14,7 @@ ScansSome scan = (m : ℕ) (s : Scan) → scan m ≡ Some s → is_empty s.left 
 with_scan : (scan : ℕ → Option Scan) (m : ℕ) (t : Scan) → is_empty t.left ≡ false → ScansSome scan → ScansSome (set_at scan m (Some t))
 with_scan scan m t some h k q =
     at_set (λ x. x ≡ Some q → is_empty q.left ≡ false) scan m (Some t) k
-      (λ e now. ap (λ (x : Scan). is_empty x.left) (sym (some_same {A = Scan} t q now)) ∙ some) (λ n was. h k q was)
+    (λ e now. ap (λ (x : Scan). is_empty x.left) (sym (some_same {A = Scan} t q now)) ∙ some) (λ n was. h k q was)
 
 goes_some : (c : Core) (m : ℕ) (s : Scan) (ns : List ℕ) → ScansSome c.scan → ScansSome (goes_on c m s ns).scan
 goes_some c m s [] h = λ k q. at_set (λ x. x ≡ Some q → is_empty q.left ≡ false) c.scan m None k (λ e wrong. absurd cc) (λ n was. h k q was)
@@ -112,7 +108,7 @@ next_in z r w row word = go (nat_lt (w + 1) (words z)) refl
 
     go : (b : Bool) → nat_lt (w + 1) (words z) ≡ b
         → (LooksInRange z (cond b (Look r (w + 1)) (Look (r + 1) 0)))
-          × ((hand : Option ℕ) (found : ℕ → Bool) → roots_done z (cond b (Look r (w + 1)) (Look (r + 1) 0)) hand found ≡ false)
+        × ((hand : Option ℕ) (found : ℕ → Bool) → roots_done z (cond b (Look r (w + 1)) (Look (r + 1) 0)) hand found ≡ false)
     go true e = (inl (row, search rules), λ hand found. refl)
     go false e = (next_row, λ hand found. refl)
 

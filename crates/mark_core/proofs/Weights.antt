@@ -39,7 +39,7 @@ rescan_le scan m o n b (InRow r) le = le_self (2 * n + 3)
 rescan_le scan m o n b (OnStack k) le = le_self (2 * n + 2)
 rescan_le scan m o n b (UnderScan k) le =
     at_set {A = Option Scan} (λ x. scan_left x ≤ scan_left (scan k)) scan m o k (λ e. subst (λ (i : ℕ). scan_left o ≤ scan_left (scan i)) (sym e) le)
-      (λ e. le_self (scan_left (scan k)))
+    (λ e. le_self (scan_left (scan k)))
 rescan_le scan m o n b (InHand l) le = le_self (2 * n + 4)
 rescan_le scan m o n b InCollector le = le_self (2 * n + 4)
 
@@ -65,8 +65,8 @@ rescan_less z c m s t at less h =
     let under = h.standing.under m s at in
     let le : scan_left (Some t) ≤ scan_left (c.scan m) = subst (λ (o : Option Scan). scan_left (Some t) ≤ scan_left o) (sym at) (omega arith) in
     let now : work (record c { scan = set_at c.scan m (Some t) }) s.unit ≡ scan_left (Some t) =
-        ap (work_at (set_at c.scan m (Some t)) (length (c.cells s.unit)) (c.marked s.unit)) under
-          ∙ ap scan_left (set_here c.scan m (Some t) m refl) in
+    ap (work_at (set_at c.scan m (Some t)) (length (c.cells s.unit)) (c.marked s.unit)) under
+    ∙ ap scan_left (set_here c.scan m (Some t) m refl) in
     let was = under_work c m s at under in
     sum_less (work (record c { scan = set_at c.scan m (Some t) })) (work c) z.units s.unit (grey_in z c s.unit (λ none. absurd cc) h)
     (λ v. rescan_le c.scan m (Some t) (length (c.cells v)) (c.marked v) (c.place v) le)
@@ -79,8 +79,8 @@ ends_less z c m s at some h =
     let marked = grey_marked z c s.unit (λ none. absurd cc) h in
     let was = under_work c m s at under in
     let now : work (record (leaves c s.unit) { scan = set_at c.scan m None }) s.unit ≡ 0 =
-        ap (work_at (set_at c.scan m None) (length (c.cells s.unit)) (c.marked s.unit)) (set_here c.place s.unit Nowhere s.unit refl)
-          ∙ black_none (set_at c.scan m None) (length (c.cells s.unit)) (c.marked s.unit) marked in
+    ap (work_at (set_at c.scan m None) (length (c.cells s.unit)) (c.marked s.unit)) (set_here c.place s.unit Nowhere s.unit refl)
+    ∙ black_none (set_at c.scan m None) (length (c.cells s.unit)) (c.marked s.unit) marked in
     sum_less (work (record (leaves c s.unit) { scan = set_at c.scan m None })) (work c) z.units s.unit (grey_in z c s.unit (λ none. absurd cc) h)
     (λ v. at_set (λ p. work_at (set_at c.scan m None) (length (c.cells v)) (c.marked v) p ≤ work c v) c.place s.unit Nowhere v
     (λ e. black_le (set_at c.scan m None) (length (c.cells v)) (work c v) (c.marked v) (ap c.marked e ∙ marked))
@@ -156,8 +156,8 @@ starts_less z c m u none at h = go (c.cells u) refl
     other s v n b (OnStack k) e = le_self (2 * n + 2)
     other s v n b (UnderScan k) e =
         at_set {A = Option Scan} (λ x. scan_left x ≤ scan_left (c.scan k)) c.scan m (Some s) k
-          (λ same. absurd (let is = h.standing.scans v k e in let some = is.1 in let nothing : c.scan k ≡ None = ap c.scan same ∙ none in cc))
-          (λ n. le_self (scan_left (c.scan k)))
+        (λ same. absurd (let is = h.standing.scans v k e in let some = is.1 in let nothing : c.scan k ≡ None = ap c.scan same ∙ none in cc))
+        (λ n. le_self (scan_left (c.scan k)))
     other s v n b (InHand l) e = le_self (2 * n + 4)
     other s v n b InCollector e = le_self (2 * n + 4)
 
@@ -173,10 +173,10 @@ starts_less z c m u none at h = go (c.cells u) refl
         let d : Core = record c { place = set_at c.place u (UnderScan m); scan = set_at c.scan m (Some (record { unit = u; left = k ∷ rest; found = None })) } in
         let long : length (c.cells u) ≡ suc (length rest) = ap length e in
         let mine : scan_left (set_at c.scan m (Some (record { unit = u; left = k ∷ rest; found = None })) m) ≡ 2 * suc (length rest) + 1 =
-            ap scan_left (set_here c.scan m (Some (record { unit = u; left = k ∷ rest; found = None })) m refl) in
+        ap scan_left (set_here c.scan m (Some (record { unit = u; left = k ∷ rest; found = None })) m refl) in
         let now : work d u ≡ 2 * suc (length rest) + 1 =
-            ap (work_at (set_at c.scan m (Some (record { unit = u; left = k ∷ rest; found = None }))) (length (c.cells u)) (c.marked u))
-                (set_here c.place u (UnderScan m) u refl) ∙ mine in
+        ap (work_at (set_at c.scan m (Some (record { unit = u; left = k ∷ rest; found = None }))) (length (c.cells u)) (c.marked u))
+        (set_here c.place u (UnderScan m) u refl) ∙ mine in
         sum_less (work d) (work c) z.units u in_units
         (λ v. at_set (λ p. work_at (set_at c.scan m (Some (record { unit = u; left = k ∷ rest; found = None }))) (length (c.cells v)) (c.marked v) p ≤ work c v) c.place u (UnderScan m) v
         (λ same. subst (λ (x : ℕ). scan_left (set_at c.scan m (Some (record { unit = u; left = k ∷ rest; found = None })) m) ≤ work c x) (sym same) (omega (arith, was)))
@@ -200,5 +200,5 @@ takes_less z c m r u at h =
     taken : takes m r (u / 64) c.place u ≡ OnStack m
     taken =
         ap (λ (b : Bool). cond b (OnStack m) (c.place u))
-          (and_both (same_place (c.place u) (InRow r)) (u / 64 == u / 64) (ap (λ (p : Place). same_place p (InRow r)) at ∙ row_same)
-            (eq-eqb (u / 64) (u / 64) refl))
+        (and_both (same_place (c.place u) (InRow r)) (u / 64 == u / 64) (ap (λ (p : Place). same_place p (InRow r)) at ∙ row_same)
+        (eq-eqb (u / 64) (u / 64) refl))

@@ -65,12 +65,12 @@ strong-set units rooted strong l to lt = fun_ext (λ p. at p (nat_lt p units) re
     at p true e (inr n) = at_root units rooted (set strong l to) p true e ∙ (sym (at_root units rooted strong p true e) ∙ sym (set_there (root_of units rooted strong) (units + l) to p n))
     at p false e (inl same) =
         at_root units rooted (set strong l to) p false e
-          ∙ (get_or-set_at strong l (p - units) to None (omega arith) lt ∙ sym (set_here (root_of units rooted strong) (units + l) to p same))
+        ∙ (get_or-set_at strong l (p - units) to None (omega arith) lt ∙ sym (set_here (root_of units rooted strong) (units + l) to p same))
     at p false e (inr n) =
         let far : units ≤ p = search rules in
         at_root units rooted (set strong l to) p false e
-            ∙ (get_or-set_other strong l (p - units) to None (λ wrong. n (omega arith))
-              ∙ (sym (at_root units rooted strong p false e) ∙ sym (set_there (root_of units rooted strong) (units + l) to p n)))
+        ∙ (get_or-set_other strong l (p - units) to None (λ wrong. n (omega arith))
+        ∙ (sym (at_root units rooted strong p false e) ∙ sym (set_there (root_of units rooted strong) (units + l) to p n)))
 
 -- a root bit is written
 pub bit-set : (units : ℕ) (rooted : List Bool) (strong : List (Option ℕ)) (u : ℕ) (on : Bool) → u < units → u < length rooted
@@ -89,7 +89,7 @@ bit-set units rooted strong u on small lt = fun_ext (λ p. at p (nat_lt p units)
     at p false e (inl same) = absurd (let far : units ≤ p = search rules in omega arith)
     at p false e (inr n) =
         at_root units (set rooted u on) strong p false e
-          ∙ (sym (at_root units rooted strong p false e) ∙ sym (set_there (root_of units rooted strong) u (cond on (Some u) None) p n))
+        ∙ (sym (at_root units rooted strong p false e) ∙ sym (set_there (root_of units rooted strong) u (cond on (Some u) None) p n))
 
 -- a scan is written
 pub scan-set : (z : Shape) (scans : List (Option ScanAt)) (m : ℕ) (scan : Option ScanAt) → m < length scans

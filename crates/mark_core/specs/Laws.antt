@@ -65,7 +65,7 @@ pub record Loosens (z : Sizes) (c : Core) (u v : ℕ) (own_cells left : List ℕ
 abbrev pub LooseningIsLawful : Type 0
 LooseningIsLawful =
     (z : Sizes) (c : Core) (u v : ℕ) (own_cells left : List ℕ) (own_bit : ℕ) (by_cell by_strong : ℕ → Bool) → Loosens z c u v own_cells left
-      → Lawful z c → Lawful z (loosens c u v own_cells left own_bit by_cell by_strong)
+    → Lawful z c → Lawful z (loosens c u v own_cells left own_bit by_cell by_strong)
 
 -- the number of frames goes up and down by one, and is 0 only where all are closed
 pub record AreCounted (z : Sizes) (c : Core) : Type 0 where

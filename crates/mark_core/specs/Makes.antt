@@ -11,9 +11,14 @@ empties cells cell n = if has cells n then None else cell n
 -- a place without a unit gets a marked one with these cells, empty, which the lane holds
 abbrev pub makes : Core → ℕ → ℕ → List ℕ → Core
 makes c lane u cells =
-    record c
-      { doomed = set_at c.doomed u false; marked = set_at c.marked u true; cells = set_at c.cells u cells; cell = empties cells c.cell;
-        scanned = set_at c.scanned u false; holds = set_in c.holds lane u true }
+    record c {
+      doomed = set_at c.doomed u false;
+      marked = set_at c.marked u true;
+      cells = set_at c.cells u cells;
+      cell = empties cells c.cell;
+      scanned = set_at c.scanned u false;
+      holds = set_in c.holds lane u true;
+    }
 
 -- no unit that is not doomed has one of these cells
 abbrev pub AreFresh : Core → List ℕ → Type 0

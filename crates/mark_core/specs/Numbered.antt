@@ -4,8 +4,7 @@ use Rattle.mark_core.specs.declared.types.Event.{Event}
 use Rattle.mark_core.specs.declared.types.Event.TheVariants as event
 use Rattle.mark_core.specs.declared.types.Shape.{Shape}
 use Rattle.mark_core.specs.Machine.{Actor, Lane, Marker, Collector, Cell, CellOf, StrongOf}
-use Rattle.mark_core.specs.Steps.{Step, FrameOpen, FrameClose, BeginExchange, Shade, SwapCell, LoadCell, AddRow, TakeRow, SetDirty, ClearDirty,
-    LoadRow, CommitExchange, LoadHead, DoomHead, Settle, RootBit}
+use Rattle.mark_core.specs.Steps.{Step, FrameOpen, FrameClose, BeginExchange, Shade, SwapCell, LoadCell, AddRow, TakeRow, SetDirty, ClearDirty, LoadRow, CommitExchange, LoadHead, DoomHead, Settle, RootBit}
 
 -- the lanes from 0, then the markers, then the collector. A number behind it is that of no marker of the machine
 abbrev pub actor_of : Shape → ℕ → Actor

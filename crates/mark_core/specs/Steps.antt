@@ -4,9 +4,7 @@
 -- cells and root bits of their own numbers, and not only `Core`, which gives each unit as many.
 use Rattle.std.specs.Prelude.{◌≡◌, ℕ, ◌+◌, ◌*◌, ◌/◌, ◌<◌, ◌≤◌, ◌==◌, ⊤, zero, suc, nat_le, nat_lt, Bool, true, false, not, ◌&&◌, if◌then◌else◌, List, [], ◌∷◌, Option, Some, None, is_none, IfSome}
 use Rattle.mark_core.specs.Changes.{set_at, set_in, has}
-use Rattle.mark_core.specs.Machine.{Phase, Idle, Marking, Gathering, Actor, Lane, Marker, Collector, Cell, CellOf, StrongOf, Place, Nowhere, InRow,
-    OnStack, UnderScan, InHand, InCollector, Scan, Job, NoJob, Roots, Look, Sizes, strong_place, root_places, words, Core, same_place, row_bit,
-    frames}
+use Rattle.mark_core.specs.Machine.{Phase, Idle, Marking, Gathering, Actor, Lane, Marker, Collector, Cell, CellOf, StrongOf, Place, Nowhere, InRow, OnStack, UnderScan, InHand, InCollector, Scan, Job, NoJob, Roots, Look, Sizes, strong_place, root_places, words, Core, same_place, row_bit, frames}
 
 pub data Step : Type 0 where
   FrameOpen : Step

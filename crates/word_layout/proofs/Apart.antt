@@ -140,7 +140,7 @@ part_again (part.Cell a b) = refl
 abbrev sizes : Sizes → List ℕ
 sizes z =
     1 ∷ 1 ∷ 1 ∷ 1 ∷ 1 ∷ z.lanes ∷ z.lanes ∷ z.lanes ∷ z.lanes ∷ z.lanes * z.strong ∷ row_words z ∷ (z.markers + 1) * row_words z ∷ item_count z
-      ∷ item_count z ∷ item_count z ∷ item_count z ∷ item_count z ∷ item_count z ∷ item_count z * z.slots ∷ []
+    ∷ item_count z ∷ item_count z ∷ item_count z ∷ item_count z ∷ item_count z ∷ item_count z * z.slots ∷ []
 
 -- and how many stand in a row
 abbrev widths : Sizes → List ℕ

@@ -1,6 +1,5 @@
 -- What one atomic step makes of the value of a word.
-use Rattle.std.proofs.Common.{◌≡◌, ℕ, ◌+◌, ◌-◌, ◌*◌, ◌/◌, ◌%◌, ◌<◌, ◌≤◌, ◌^◌, zero, suc, min, max, refl, sym, ap, ◌∙◌, arith, w64, bit_and, bit_or,
-    bit_xor, count_ones, lit<, mod-lt, div-add-mod', add-mul, Bool, true, false, not}
+use Rattle.std.proofs.Common.{◌≡◌, ℕ, ◌+◌, ◌-◌, ◌*◌, ◌/◌, ◌%◌, ◌<◌, ◌≤◌, ◌^◌, zero, suc, min, max, refl, sym, ap, ◌∙◌, arith, w64, bit_and, bit_or, bit_xor, count_ones, lit<, mod-lt, div-add-mod', add-mul, Bool, true, false, not}
 use Rattle.std.specs.Int.{bit_at, bit_not}
 use Rattle.std.specs.Int.Bits.{or_add_and, xor_add_and}
 use Rattle.std.proofs.Math.Pow.{pow-lt}
@@ -157,8 +156,8 @@ bits_change w k word lt =
         one = bit_at_and w (bit_not w64 (2 ^ k)) k ∙ and_none (bit_at w k) (bit_at (bit_not w64 (2 ^ k)) k) (bit_at (2 ^ k) k) (bit_at_not w64 (2 ^ k) k fits lt) (bit_at-pow_same k);
         others =
             λ i few ne.
-              bit_at_and w (bit_not w64 (2 ^ k)) i
-                ∙ and_one (bit_at w i) (bit_at (bit_not w64 (2 ^ k)) i) (bit_at (2 ^ k) i) (bit_few w i) (bit_at_not w64 (2 ^ k) i fits few)
-                  (bit_at-pow_other k i ne);
+            bit_at_and w (bit_not w64 (2 ^ k)) i
+            ∙ and_one (bit_at w i) (bit_at (bit_not w64 (2 ^ k)) i) (bit_at (2 ^ k) i) (bit_few w i) (bit_at_not w64 (2 ^ k) i fits few)
+            (bit_at-pow_other k i ne);
       },
     )

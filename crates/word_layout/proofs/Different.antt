@@ -5,8 +5,7 @@ use Rattle.world_model.specs.LaneSteps.{is_readiness}
 use Rattle.word_layout.specs.Types.{Phase, Idle, Marking, Gathering, Ready, Life}
 use Rattle.word_layout.specs.Types.ready
 use Rattle.word_layout.specs.Types.life
-use Rattle.word_layout.specs.Values.{AreDifferent, bit, phase_number, gate_word, IsGate, life_number, head_word, IsHead, weak_word, IsWeak, ref_word,
-    IsRef, ready_number, kind_word, IsKind, place_number, stock_word, IsStock}
+use Rattle.word_layout.specs.Values.{AreDifferent, bit, phase_number, gate_word, IsGate, life_number, head_word, IsHead, weak_word, IsWeak, ref_word, IsRef, ready_number, kind_word, IsKind, place_number, stock_word, IsStock}
 
 -- ---- parts
 

@@ -88,9 +88,17 @@ units_next z s p (act.Loose of) may apart u = (λ k. before (among_parted of s.w
     before : (v : List Name) × Among s.world.units v × Among (parted of v) u → (◌≢◌ {A = List Name} [] [] × (u ≡ [])) ⊎ Contains (parted of unit) u ⊎ StaysBy s (act.Loose of) u
     before (v, k, part) = go (which_part of v u part)
       where
-        go : ((ends_with of v ≡ true) × ((but_last v ≡ u) ⊎ (of ∷ [] ≡ u))) ⊎ ((ends_with of v ≡ false) × (v ≡ u)) → (◌≢◌ {A = List Name} [] [] × (u ≡ [])) ⊎ Contains (parted of unit) u ⊎ StaysBy s (act.Loose of) u
+        go : ((ends_with of v ≡ true) × ((but_last v ≡ u) ⊎ (of ∷ [] ≡ u))) ⊎ ((ends_with of v ≡ false) × (v ≡ u))
+            → (◌≢◌ {A = List Name} [] [] × (u ≡ [])) ⊎ Contains (parted of unit) u ⊎ StaysBy s (act.Loose of) u
         go (inl (e, which)) = inr (inl (among_contains _ u (subst (λ (x : List Name). Among (parted of x) u) (sym (own v k e)) part)))
-        go (inr (e, same)) = inr (inr (record { unit = among_contains _ u (subst (λ (x : List Name). Among s.world.units x) same k); whole = ap (ends_with of) (sym same) ∙ e; marked = λ e. absurd cc }))
+        go (inr (e, same)) =
+            inr
+            (inr
+            (record {
+              unit = among_contains _ u (subst (λ (x : List Name). Among s.world.units x) same k);
+              whole = ap (ends_with of) (sym same) ∙ e;
+              marked = λ e. absurd cc;
+            }))
 
     now : (◌≢◌ {A = List Name} [] [] × (u ≡ [])) ⊎ Contains (parted of unit) u ⊎ StaysBy s (act.Loose of) u → Contains (with_loose s.world of).units u
     now (inl is) = absurd (is.0 refl)
@@ -138,14 +146,16 @@ removed_next z s p (act.CommitGc commit.Done) may apart known n = (λ k. let was
         let unit = test_among (λ u. has u n) (white_units s.marks s.world) (sym (has-members (white_units s.marks s.world) n) ∙ k) in
         let in_units = among_filter (λ u. not (is_marked s.marks u)) s.world.units unit.0 unit.1 in (
           member_lives s.world unit.0 n in_units unit.2,
-          subst (λ (u : List Name). is_marked s.marks u ≡ false) (sym (own_unit s.world apart unit.0 n in_units unit.2)) (not-true _ (among_filter_test (λ u. not (is_marked s.marks u)) s.world.units unit.0 unit.1)),
+          subst (λ (u : List Name). is_marked s.marks u ≡ false) (sym (own_unit s.world apart unit.0 n in_units unit.2))
+              (not-true _ (among_filter_test (λ u. not (is_marked s.marks u)) s.world.units unit.0 unit.1)),
         )
 
     now : RemovedNext s (act.CommitGc commit.Done) n → is_removed (next_world s.marks s.world p (act.CommitGc commit.Done)) n ≡ true
     now (inl (e, lives, unmarked)) =
         let unit = found_unit s.world.units n lives in
         is_named ∙ has-members (white_units s.marks s.world) n
-        ∙ among_test (λ u. has u n) (white_units s.marks s.world) (unit_of s.world n) (filter_among (λ u. not (is_marked s.marks u)) s.world.units (unit_of s.world n) unit.0 (not_from_false _ unmarked)) unit.1
+        ∙ among_test (λ u. has u n) (white_units s.marks s.world) (unit_of s.world n)
+        (filter_among (λ u. not (is_marked s.marks u)) s.world.units (unit_of s.world n) unit.0 (not_from_false _ unmarked)) unit.1
     now (inr old) = absurd (both_ways (is_removed s.world n) (ap (list_any (λ r. same_name n r.name)) (known.destroying.unmarked (commits_may z s p may).marking)) old.0)
 removed_next z s p (act.Released of) may apart known n = (λ k. inr (before k), now)
   where
@@ -160,17 +170,26 @@ removed_next z s p (act.Released of) may apart known n = (λ k. inr (before k), 
         let parts = and_true (not (has (released_by w of) n)) (is_removed w n) (sym (left_after w of n) ∙ k) in (
           parts.1,
           false_from_ne_true _ (λ out. both_ways (has (released_by w of) n) (not-true _ parts.0)
-              (among_filter_test (has (released_by w of)) (names_of w.removals) n (has_among (filter (has (released_by w of)) (names_of w.removals)) n (ap (λ (ns : List Name). has ns n) (sym names) ∙ out)))),
+              (among_filter_test (has (released_by w of)) (names_of w.removals) n
+              (has_among (filter (has (released_by w of)) (names_of w.removals)) n (ap (λ (ns : List Name). has ns n) (sym names) ∙ out)))),
         )
 
     now : RemovedNext s (act.Released of) n → is_removed (next_world s.marks w p (act.Released of)) n ≡ true
     now (inl e) = absurd (let wrong = e.0 in cc)
     now (inr old) = left_after w of n ∙ and_from _ _ (not_from_false _ (false_from_ne_true _ (λ out. both_ways (has (freed_by w (act.Released of)) n) old.1
         (ap (λ (ns : List Name). has ns n) names
-        ∙ among_has (filter (has (released_by w of)) (names_of w.removals)) n (filter_among (has (released_by w of)) (names_of w.removals) n (has_among (names_of w.removals) n (named_any n w.removals ∙ old.0)) out))))) old.0
-removed_next z s p (act.Begun of) may apart known n = same_removed s.world.removals (at_stage s.world of Begun).removals n (in_world s.world n ≡ true) (is_marked s.marks (unit_of s.world n) ≡ false) (named_kept of (λ r. record r { stage = Begun }) (λ r. refl) s.world.removals n)
-removed_next z s p (act.Finished of) may apart known n = same_removed s.world.removals (at_stage s.world of Finished).removals n (in_world s.world n ≡ true) (is_marked s.marks (unit_of s.world n) ≡ false) (named_kept of (λ r. record r { stage = Finished }) (λ r. refl) s.world.removals n)
-removed_next z s p (act.Asked of poll answer) may apart known n = same_removed s.world.removals (polled s.world of poll).removals n (in_world s.world n ≡ true) (is_marked s.marks (unit_of s.world n) ≡ false) (named_kept of (λ r. record r { polls = poll }) (λ r. refl) s.world.removals n)
+        ∙ among_has (filter (has (released_by w of)) (names_of w.removals)) n
+        (filter_among (has (released_by w of)) (names_of w.removals) n (has_among (names_of w.removals) n (named_any n w.removals ∙ old.0))
+        out))))) old.0
+removed_next z s p (act.Begun of) may apart known n =
+    same_removed s.world.removals (at_stage s.world of Begun).removals n (in_world s.world n ≡ true) (is_marked s.marks (unit_of s.world n) ≡ false)
+    (named_kept of (λ r. record r { stage = Begun }) (λ r. refl) s.world.removals n)
+removed_next z s p (act.Finished of) may apart known n =
+    same_removed s.world.removals (at_stage s.world of Finished).removals n (in_world s.world n ≡ true)
+    (is_marked s.marks (unit_of s.world n) ≡ false) (named_kept of (λ r. record r { stage = Finished }) (λ r. refl) s.world.removals n)
+removed_next z s p (act.Asked of poll answer) may apart known n =
+    same_removed s.world.removals (polled s.world of poll).removals n (in_world s.world n ≡ true) (is_marked s.marks (unit_of s.world n) ≡ false)
+    (named_kept of (λ r. record r { polls = poll }) (λ r. refl) s.world.removals n)
 removed_next z s p (act.BeginGc begin.Started) may apart known n = same_removed s.world.removals s.world.removals n (in_world s.world n ≡ true) (is_marked s.marks (unit_of s.world n) ≡ false) refl
 removed_next z s p _ may apart known n = same_removed s.world.removals s.world.removals n (in_world s.world n ≡ true) (is_marked s.marks (unit_of s.world n) ≡ false) refl
 

@@ -114,7 +114,8 @@ module _ (z : Sizes) (s : State) (lane : ℕ) (whole front : List Name) (h : IsM
     so_far = inr (ap (λ (f : Frame). f.broken) frame1 ∙ broken1, all h.so_far ∙ ap (λ (f : Frame). but_last front ++ f.loosened) (sym frame1));
   }
     where
-      all : (((s.frames lane).broken ≡ []) × (whole ≡ front)) ⊎ (((s.frames lane).broken ≡ whole) × (whole ≡ front ++ (s.frames lane).loosened)) → whole ≡ but_last front ++ n ∷ (s.frames lane).loosened
+      all : (((s.frames lane).broken ≡ []) × (whole ≡ front)) ⊎ (((s.frames lane).broken ≡ whole) × (whole ≡ front ++ (s.frames lane).loosened))
+          → whole ≡ but_last front ++ n ∷ (s.frames lane).loosened
       all (inl (b, e)) = whole1 b (none b) e
       all (inr (b, e)) = whole2 e
 
@@ -138,11 +139,14 @@ all_leave z (suc k) s lane whole front long none h =
     let n = last.0 in
     let split = ap (λ (u : List Name). length u) (ends_splits n front last.1) in
     let parts = length-append (but_last front) (n ∷ []) in
-    let rest = all_leave z k (next s (entry (Lane lane) (act.Loose n))) lane whole (but_last front) (omega arith) (known1 z s lane whole front h n last.1) (midway1 z s lane whole front h n last.1 none) in
+    let rest =
+    all_leave z k (next s (entry (Lane lane) (act.Loose n))) lane whole (but_last front) (omega arith) (known1 z s lane whole front h n last.1)
+    (midway1 z s lane whole front h n last.1 none) in
     (n ∷ rest.0, record { legal = (leaves z s lane whole front h n last.1, rest.1.legal); first = rest.1.first; midway = rest.1.midway })
 
 -- then it is taken apart
-pub ready_closes : (z : Sizes) (s : State) (lane : ℕ) (whole : List Name) (first at : Name) → has whole at ≡ true → at.lane ≡ lane → IsMidway z s lane whole (first ∷ []) → May z s (entry (Lane lane) (act.Dissolve at (length whole)))
+pub ready_closes : (z : Sizes) (s : State) (lane : ℕ) (whole : List Name) (first at : Name) → has whole at ≡ true → at.lane ≡ lane
+    → IsMidway z s lane whole (first ∷ []) → May z s (entry (Lane lane) (act.Dissolve at (length whole)))
 ready_closes z s lane whole first at member own h = record {
   in_range = h.in_range;
   frame = record { opened = h.opened; continues = rw h.none_owed tt; parts = on (s.frames lane).broken };
@@ -153,7 +157,9 @@ ready_closes z s lane whole first at member own h = record {
     on [] = tt
     on (n ∷ rest) = tt
 
-    loose : (((s.frames lane).broken ≡ []) × (whole ≡ first ∷ [])) ⊎ (((s.frames lane).broken ≡ whole) × (whole ≡ (first ∷ []) ++ (s.frames lane).loosened)) → AreLoose s.world at (s.frames lane).broken (s.frames lane).loosened (length whole)
+    loose : (((s.frames lane).broken ≡ []) × (whole ≡ first ∷ []))
+        ⊎ (((s.frames lane).broken ≡ whole) × (whole ≡ (first ∷ []) ++ (s.frames lane).loosened))
+        → AreLoose s.world at (s.frames lane).broken (s.frames lane).loosened (length whole)
     loose (inl (b, e)) =
         let same : at ≡ first = member_of_one at first (ap (λ (u : List Name). has u at) (sym e) ∙ member) in
         let unit : unit_of s.world at ≡ at ∷ [] = own_unit s.world h.apart (first ∷ []) at h.unit (ap (λ (u : List Name). has u at) (sym e) ∙ member) ∙ ap (λ (n : Name). n ∷ []) (sym same) in
@@ -187,7 +193,9 @@ dissolves : (z : Sizes) (history : List Entry) (lane : ℕ) (at : Name) → Lega
     → CanAppend z history (Lane lane) (act.Dissolve at (length (unit_of (after history) at)))
 dissolves z history lane at legal lane_in ask unmarked = record {
   new = history ++ by (Lane lane) (map act.Loose ready.0 ++ act.Dissolve at (length unit) ∷ []);
-  call = solo z history (Lane lane) (act.Dissolve at (length unit)) (map act.Loose ready.0 ++ act.Dissolve at (length unit) ∷ []) (record { of = ready.0; are = refl }, ask.none_broken) legal all_legal;
+  call =
+      solo z history (Lane lane) (act.Dissolve at (length unit)) (map act.Loose ready.0 ++ act.Dissolve at (length unit) ∷ [])
+      (record { of = ready.0; are = refl }, ask.none_broken) legal all_legal;
 }
   where
     s : State
@@ -211,7 +219,8 @@ dissolves z history lane at legal lane_in ask unmarked = record {
 
     all_legal : LegalFrom z s (by (Lane lane) (map act.Loose ready.0 ++ act.Dissolve at (length unit) ∷ []))
     all_legal = subst (LegalFrom z s) (sym (by-append (Lane lane) (map act.Loose ready.0) (act.Dissolve at (length unit) ∷ [])))
-        (legal_join z s (leaving lane ready.0) (entry (Lane lane) (act.Dissolve at (length unit)) ∷ []) ready.1.legal (ready_closes z (run s (leaving lane ready.0)) lane unit ready.1.first at member ask.own ready.1.midway, tt))
+        (legal_join z s (leaving lane ready.0) (entry (Lane lane) (act.Dissolve at (length unit)) ∷ []) ready.1.legal
+        (ready_closes z (run s (leaving lane ready.0)) lane unit ready.1.first at member ask.own ready.1.midway, tt))
 
 pub dissolve_answers_holds : DissolveAnswers
 dissolve_answers_holds z history lane at legal lane_in ask = record {

@@ -104,7 +104,8 @@ commit_apart s garbage _ h = h
 sweeps_apart : (s : State) (garbage : Name → Bool) (budget : ℕ) (reply : Swept) (names : List Name) → Sweeps s budget reply names → Sweeps (with_garbage s garbage) budget reply names
 sweeps_apart s garbage budget reply names h = record { gathering = h.gathering; within = h.within; count = h.count; looked = h.looked; different = h.different; removed = h.removed; new = h.new }
 
-sweep_apart : (z : Sizes) (s : State) (garbage : Name → Bool) (budget : ℕ) (reply : Swept) (names : List Name) (stop : SweepStop) → SweepMay z s budget reply names stop → SweepMay z (with_garbage s garbage) budget reply names stop
+sweep_apart : (z : Sizes) (s : State) (garbage : Name → Bool) (budget : ℕ) (reply : Swept) (names : List Name) (stop : SweepStop)
+    → SweepMay z s budget reply names stop → SweepMay z (with_garbage s garbage) budget reply names stop
 sweep_apart z s garbage budget reply names sweep.More h = (sweeps_apart s garbage budget reply names h.0, h.1)
 sweep_apart z s garbage budget reply names sweep.Settled h = (sweeps_apart s garbage budget reply names h.0, h.1, h.2)
 sweep_apart z s garbage budget reply names (sweep.NotGathering phase) h = h
@@ -129,13 +130,15 @@ may_apart z s garbage (Lane lane) a not h = record { in_range = h.in_range; fram
 may_apart z s garbage (Marker marker) a not h = record { in_range = h.in_range; slice = in_slice_apart s garbage marker a h.slice; may = marker_apart s garbage marker a h.may }
 may_apart z s garbage Collector a not h = record { finishes = h.finishes; may = collector_apart z s garbage a h.may }
 
-left_apart : (s : State) (garbage : Name → Bool) (p : Pass) (a : Act) → is_of_garbage a ≡ false → SameButGarbage (next s (record { pass = p; act = a })) (next (with_garbage s garbage) (record { pass = p; act = a }))
+left_apart : (s : State) (garbage : Name → Bool) (p : Pass) (a : Act) → is_of_garbage a ≡ false
+    → SameButGarbage (next s (record { pass = p; act = a })) (next (with_garbage s garbage) (record { pass = p; act = a }))
 left_apart s garbage p (act.MarkGarbage at old) not = absurd cc
 left_apart s garbage p (act.BeginGc begin.Started) not = record { world = refl; kept = refl; fresh = refl; scanned = refl }
 left_apart s garbage p (act.CommitGc commit.Done) not = record { world = refl; kept = refl; fresh = refl; scanned = refl }
 left_apart s garbage p _ not = record { world = refl; kept = refl; fresh = refl; scanned = refl }
 
-frames_apart : (s : State) (garbage : Name → Bool) (p : Pass) (a : Act) → is_of_garbage a ≡ false → (next (with_garbage s garbage) (record { pass = p; act = a })).frames ≡ (next s (record { pass = p; act = a })).frames
+frames_apart : (s : State) (garbage : Name → Bool) (p : Pass) (a : Act) → is_of_garbage a ≡ false
+    → (next (with_garbage s garbage) (record { pass = p; act = a })).frames ≡ (next s (record { pass = p; act = a })).frames
 frames_apart s garbage p (act.MarkGarbage at old) not = absurd cc
 frames_apart s garbage p (act.BeginGc begin.Started) not = refl
 frames_apart s garbage p (act.CommitGc commit.Done) not = refl

@@ -60,7 +60,8 @@ lived s p _ n h = inl h
 pub member_lives : (w : World) (u : List Name) (n : Name) → Among w.units u → has u n ≡ true → in_world w n ≡ true
 member_lives w u n k h = among_test (λ v. has v n) w.units u k h
 
-pub makes_living : (s : State) (p : Pass) (kinds : List Kind) (first : ℕ) (n : Name) → has (names_from (lane_of p) first kinds) n ≡ true → in_world (next_world s.marks s.world p (act.Make kinds first)) n ≡ true
+pub makes_living : (s : State) (p : Pass) (kinds : List Kind) (first : ℕ) (n : Name) → has (names_from (lane_of p) first kinds) n ≡ true
+    → in_world (next_world s.marks s.world p (act.Make kinds first)) n ≡ true
 makes_living s p kinds first n h = list_any-append (λ u. has u n) s.world.units (names_from (lane_of p) first kinds ∷ []) ∙ or_right (in_world s.world n) _ (or_left _ false h)
 
 -- ---- what is named lives
@@ -215,7 +216,8 @@ scanned_tricolour s of apart may h = record {
     kept marking u k (inl e) = subst (λ (v : List Name). list_any (has s.marks.kept) v ≡ true) (own u k e) (and_true _ _ may.grey).0
     kept marking u k (inr e) = h.scanned_kept marking u k e
 
-    go : s.world.phase ≡ Marking → (u v : List Name) (from : Name) (slot : ℕ) (to : Name) → Among s.world.units u → Among s.world.units v → has u from ≡ true → has v to ≡ true → s.world.cell from slot ≡ Some to
+    go : s.world.phase ≡ Marking → (u v : List Name) (from : Name) (slot : ℕ) (to : Name) → Among s.world.units u → Among s.world.units v
+        → has u from ≡ true → has v to ≡ true → s.world.cell from slot ≡ Some to
         → is_marked s.marks u ≡ true → (a : Bool) → list_any (has s.marks.kept) u ≡ a → (b : Bool) → list_any (has s.marks.scanned) u ≡ b
         → (a && not (list_any (has (of ∷ s.marks.scanned)) u)) ≡ false → is_marked s.marks v ≡ true
     go marking u v from slot to k l a b e m false f sc g not_grey = h.black marking u v from slot to k l a b e m (rw f refl)
@@ -285,10 +287,14 @@ made_tricolour z s p kinds first may known named noted h = record {
     scanned_kept marking u (inr (inr e)) is = absurd e
 
 -- a reference is stored: its target is marked
-stored_tricolour : (s : State) (at : Name) (slot : ℕ) (to : Option Name) → AreApart s.world.kinds s.world.units → (s.world.phase ≡ Marking → (n : Name) → to ≡ Some n → is_marked s.marks (unit_of s.world n) ≡ true)
+stored_tricolour : (s : State) (at : Name) (slot : ℕ) (to : Option Name) → AreApart s.world.kinds s.world.units
+    → (s.world.phase ≡ Marking → (n : Name) → to ≡ Some n → is_marked s.marks (unit_of s.world n) ≡ true)
     → Tricolour s → IsTricolour s.world.phase s.world.units (set_name s.world.cell at (set_at (s.world.cell at) slot to)) s.marks.kept s.marks.fresh s.marks.scanned
 stored_tricolour s at slot to apart shaded h = record {
-  black = λ marking u v from k_slot target k l a b e m g. cells_after s.world.cell at slot to (Black marking) (λ u v target k l a b e m g. new marking v target l b e) (λ n k u v target x y a b e m g. h.black marking u v n k target x y a b e m g) from k_slot u v target k l a b e m g;
+  black =
+      λ marking u v from k_slot target k l a b e m g.
+      cells_after s.world.cell at slot to (Black marking) (λ u v target k l a b e m g. new marking v target l b e)
+      (λ n k u v target x y a b e m g. h.black marking u v n k target x y a b e m g) from k_slot u v target k l a b e m g;
   scanned_kept = h.scanned_kept;
 }
   where
@@ -314,7 +320,8 @@ none_marked (n ∷ u) h = none_marked u h
 
 -- ---- which pass an act is of
 
-pub writes : (z : Sizes) (s : State) (p : Pass) (at : Name) (slot : ℕ) (to old : Option Name) → MayBy z s p (act.WriteRef at slot to old) → (lane : ℕ) × (p ≡ Lane lane) × WritesRef s lane at slot to old
+pub writes : (z : Sizes) (s : State) (p : Pass) (at : Name) (slot : ℕ) (to old : Option Name) → MayBy z s p (act.WriteRef at slot to old)
+    → (lane : ℕ) × (p ≡ Lane lane) × WritesRef s lane at slot to old
 writes z s (Lane lane) at slot to old may = (lane, refl, may.may)
 writes z s (Marker marker) at slot to old may = absurd may.may
 writes z s Collector at slot to old may = absurd may.may
@@ -346,7 +353,8 @@ scans z s Collector of may = absurd may.may
 
 -- ---- each step
 
-next_tricolour : (z : Sizes) (s : State) (p : Pass) (a : Act) → MayBy z s p a → AreApart s.world.kinds s.world.units → IsSound s → IsBarred s → Tricolour (next_by s (next_world s.marks s.world p a) p a)
+next_tricolour : (z : Sizes) (s : State) (p : Pass) (a : Act) → MayBy z s p a → AreApart s.world.kinds s.world.units → IsSound s → IsBarred s
+    → Tricolour (next_by s (next_world s.marks s.world p a) p a)
 next_tricolour z s p (act.Kept of) may apart known h = kept_tricolour s.world.units s.world.cell s.world.phase s.marks.kept s.marks.fresh s.marks.scanned h.tricolour of
 next_tricolour z s p (act.Scanned of) may apart known h = scanned_tricolour s of apart (scans z s p of may) h.tricolour
 next_tricolour z s p (act.Make kinds first) may apart known h = made_tricolour z s p kinds first may known h.named h.noted h.tricolour
@@ -356,7 +364,11 @@ next_tricolour z s p (act.BeginGc begin.Started) may apart known h = record { bl
 next_tricolour z s p (act.CommitGc commit.Done) may apart known h = record { black = λ marking. absurd cc; scanned_kept = λ marking. absurd cc }
 next_tricolour z s p (act.Sweep budget reply names) may apart known h =
     other_phase s.world.phase (settled s.world.phase reply.stop) s.world.units s.world.cell s.marks.kept s.marks.fresh s.marks.scanned (settled_marking s.world.phase reply.stop) h.tricolour
-next_tricolour z s p (act.Loose of) may apart known h = record { black = λ marking. absurd ((loosens_may z s p of may).2.unmarked marking); scanned_kept = λ marking. absurd ((loosens_may z s p of may).2.unmarked marking) }
+next_tricolour z s p (act.Loose of) may apart known h =
+    record {
+      black = λ marking. absurd ((loosens_may z s p of may).2.unmarked marking);
+      scanned_kept = λ marking. absurd ((loosens_may z s p of may).2.unmarked marking);
+    }
 next_tricolour z s p _ may apart known h = h.tricolour
 
 next_noted : (z : Sizes) (s : State) (p : Pass) (a : Act) → MayBy z s p a → IsSound s → Noted s → Noted (next_by s (next_world s.marks s.world p a) p a)
@@ -379,7 +391,12 @@ next_noted z s p (act.Make kinds first) may known h = record {
     fresh : (n : Name) → (has (names_from (lane_of p) first kinds) n ≡ true) ⊎ (has s.marks.fresh n ≡ true) → IsMade (next_world s.marks s.world p (act.Make kinds first)) n
     fresh n (inl e) = (is_new z s p (act.Make kinds first) n may e).1
     fresh n (inr e) = made_stays s p (act.Make kinds first) n (h.fresh_made n e)
-next_noted z s p (act.Loose of) may known h = record { kept_made = h.kept_made; fresh_made = λ n e. fresh n (or_true _ _ (sym (list_any-append (same_name n) (members (with_loose s.world of).units) s.marks.fresh) ∙ e)); scanned_made = h.scanned_made }
+next_noted z s p (act.Loose of) may known h =
+    record {
+      kept_made = h.kept_made;
+      fresh_made = λ n e. fresh n (or_true _ _ (sym (list_any-append (same_name n) (members (with_loose s.world of).units) s.marks.fresh) ∙ e));
+      scanned_made = h.scanned_made;
+    }
   where
     fresh : (n : Name) → (has (members (with_loose s.world of).units) n ≡ true) ⊎ (has s.marks.fresh n ≡ true) → IsMade s.world n
     fresh n (inl e) = made_living s.world known.once n (sym (lives_loose s.world of n) ∙ sym (has-members (with_loose s.world of).units n) ∙ e)
@@ -402,7 +419,8 @@ outlives : (s : State) (u : List Name) (n : Name) → Among s.world.units u → 
 outlives s u n k m h = among_test (λ v. has v n) (filter (is_marked s.marks) s.world.units) u (filter_among (is_marked s.marks) s.world.units u k m) h
 
 -- what is in the root set is in a marked unit
-root_outlives : (s : State) (n : Name) → Commits s → in_world s.world n ≡ true → ((u : List Name) → has u n ≡ true → IsRootUnit (graph s.world) u) → list_any (λ v. has v n) (filter (is_marked s.marks) s.world.units) ≡ true
+root_outlives : (s : State) (n : Name) → Commits s → in_world s.world n ≡ true → ((u : List Name) → has u n ≡ true → IsRootUnit (graph s.world) u)
+    → list_any (λ v. has v n) (filter (is_marked s.marks) s.world.units) ≡ true
 root_outlives s n may lives root =
     let unit = test_among (λ u. has u n) s.world.units lives in
     let is_unit = among_contains s.world.units unit.0 unit.1 in
@@ -423,7 +441,8 @@ committed_named z s p may h = record {
         let lives = h.named.cells at slot n (member_lives s.world u at in_units m) e in
         let target = test_among (λ v. has v n) s.world.units lives in
         outlives s target.0 n target.1
-        (h.tricolour.black may.marking u target.0 at slot n in_units target.1 m target.2 e (among_filter_test (is_marked s.marks) s.world.units u k) (no_grey s may.marking may.black u in_units)) target.2
+        (h.tricolour.black may.marking u target.0 at slot n in_units target.1 m target.2 e (among_filter_test (is_marked s.marks) s.world.units u k)
+        (no_grey s may.marking may.black u in_units)) target.2
 
 -- ---- what is named
 
@@ -457,7 +476,10 @@ next_named z s p (act.WriteRef at slot to old) may known h =
 next_named z s p (act.Root at on old) may known h = record {
   cells = h.named.cells;
   blank = h.named.blank;
-  rooted = λ n is. set_name_here s.world.rooted at on (λ n b. b ≡ true → in_world s.world n ≡ true) (λ e. h.holding.lives (roots z s p at on old may).0 at (roots z s p at on old may).2.held) (λ n e. h.named.rooted n e) n is;
+  rooted =
+      λ n is.
+      set_name_here s.world.rooted at on (λ n b. b ≡ true → in_world s.world n ≡ true)
+      (λ e. h.holding.lives (roots z s p at on old may).0 at (roots z s p at on old may).2.held) (λ n e. h.named.rooted n e) n is;
   strong = h.named.strong;
 }
 next_named z s p (act.SetStrong number to old) may known h = record {
@@ -465,7 +487,11 @@ next_named z s p (act.SetStrong number to old) may known h = record {
   blank = h.named.blank;
   rooted = h.named.rooted;
   strong = λ l k n e. set_at_here s.world.strong (lane_of p) (set_at (s.world.strong (lane_of p)) number to) (λ l row. (k : ℕ) → row k ≡ Some n → in_world s.world n ≡ true)
-      (set_at_here (s.world.strong (lane_of p)) number to (λ k c. c ≡ Some n → in_world s.world n ≡ true) (λ e. of_some (λ n. in_world s.world n ≡ true) to (held_live s h.holding (sets z s p number to old may).0 to (sets z s p number to old may).2.held) n e) (λ k e. h.named.strong (lane_of p) k n e))
+      (set_at_here (s.world.strong (lane_of p)) number to (λ k c. c ≡ Some n → in_world s.world n ≡ true)
+      (λ e.
+      of_some (λ n. in_world s.world n ≡ true) to
+      (held_live s h.holding (sets z s p number to old may).0 to (sets z s p number to old may).2.held) n e)
+      (λ k e. h.named.strong (lane_of p) k n e))
       (λ l k e. h.named.strong l k n e) l k e;
 }
 next_named z s p (act.Loose of) may known h = record {
@@ -528,9 +554,16 @@ own_holding z s lane act.SliceOpen may named h n e = absurd may.may
 own_holding z s lane (act.Slice budget reply) may named h n e = absurd may.may
 own_holding z s lane (act.BeginGc reply) may named h n e = absurd may.may
 own_holding z s lane (act.CommitGc reply) may named h n e = absurd may.may
-own_holding z s lane a may named h n e = (go (or_true _ _ (sym (list_any-append (same_name n) (flat_map (unit_of (next_world s.marks s.world (Lane lane) a)) (given lane a)) (s.frames lane).held) ∙ e)), may.frame.opened)
+own_holding z s lane a may named h n e = (
+  go
+      (or_true _ _
+      (sym (list_any-append (same_name n) (flat_map (unit_of (next_world s.marks s.world (Lane lane) a)) (given lane a)) (s.frames lane).held)
+      ∙ e)),
+  may.frame.opened,
+)
   where
-    go : (has (flat_map (unit_of (next_world s.marks s.world (Lane lane) a)) (given lane a)) n ≡ true) ⊎ (has (s.frames lane).held n ≡ true) → in_world (next_world s.marks s.world (Lane lane) a) n ≡ true
+    go : (has (flat_map (unit_of (next_world s.marks s.world (Lane lane) a)) (given lane a)) n ≡ true) ⊎ (has (s.frames lane).held n ≡ true)
+        → in_world (next_world s.marks s.world (Lane lane) a) n ≡ true
     go (inl new) = all_members_live (next_world s.marks s.world (Lane lane) a) (given lane a) (given_lives z s lane a may named h) n new
     go (inr old) = living_stays s (Lane lane) a n refl (h.lives lane n old)
 
@@ -557,7 +590,8 @@ HoldsLiving w lane f = (n : Name) → has f.held n ≡ true → (in_world w n �
 holding_from : (w : World) (frames : ℕ → Frame) → ((lane : ℕ) → HoldsLiving w lane (frames lane)) → IsHolding w frames
 holding_from w frames h = record { lives = λ lane n e. (h lane n e).0; opened = λ lane n e. (h lane n e).1 }
 
-next_holding : (z : Sizes) (s : State) (p : Pass) (a : Act) → MayBy z s p a → IsNamed s.world → IsHolding s.world s.frames → IsHolding (next_world s.marks s.world p a) (next_by s (next_world s.marks s.world p a) p a).frames
+next_holding : (z : Sizes) (s : State) (p : Pass) (a : Act) → MayBy z s p a → IsNamed s.world → IsHolding s.world s.frames
+    → IsHolding (next_world s.marks s.world p a) (next_by s (next_world s.marks s.world p a) p a).frames
 next_holding z s (Lane lane) a may named h =
     holding_from (next_world s.marks s.world (Lane lane) a) _
     (set_at_other s.frames lane (next_frame lane s.world (next_world s.marks s.world (Lane lane) a) (s.frames lane) a) (HoldsLiving (next_world s.marks s.world (Lane lane) a))

@@ -116,7 +116,9 @@ call_rests z p s (act.Root at on old) acts (inr e) legal h = ends_rest p s _ act
 call_rests z p s (act.SetStrong number to old) acts (inl e) legal h = ends_rest p s _ acts ([], e, refl) h
 call_rests z p s (act.SetStrong number to old) acts (inr e) legal h = ends_rest p s _ acts (act.Kept e.0 ∷ [], e.1, refl) h
 call_rests z Collector s (act.BeginGc begin.Started) acts e legal h =
-    subst (λ (xs : List Act). Rests (run s (by Collector xs))) (sym e.are) (notes_rest (next s (record { pass = Collector; act = act.BeginGc begin.Started })) e.of (closes_all Collector s (act.BeginGc begin.Started) refl h))
+    subst (λ (xs : List Act). Rests (run s (by Collector xs))) (sym e.are)
+    (notes_rest (next s (record { pass = Collector; act = act.BeginGc begin.Started })) e.of
+    (closes_all Collector s (act.BeginGc begin.Started) refl h))
 call_rests z (Lane lane) s (act.BeginGc begin.Started) acts e legal h = absurd (subst (LegalFrom z s) (ap (by (Lane lane)) e.are) legal).0.may
 call_rests z (Marker marker) s (act.BeginGc begin.Started) acts e legal h = absurd (subst (LegalFrom z s) (ap (by (Marker marker)) e.are) legal).0.may
 call_rests z p s (act.Slice budget reply) acts e legal h = ends_rest p s _ acts (act.SliceOpen ∷ e.notes, e.are, refl) h

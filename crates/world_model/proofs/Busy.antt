@@ -19,15 +19,27 @@ pub four_made_legal : Legal small four_made
 four_made_legal = (
   record { in_range = lit< tt; frame = refl; may = refl },
   (
-    record { in_range = lit< tt; frame = record { opened = refl; continues = tt; parts = tt }; may = record { some = lit≤ tt; few = lit≤ tt; lawful = refl; next = refl; names = lit≤ tt; room = lit≤ tt } },
+    record {
+      in_range = lit< tt;
+      frame = record { opened = refl; continues = tt; parts = tt };
+      may = record { some = lit≤ tt; few = lit≤ tt; lawful = refl; next = refl; names = lit≤ tt; room = lit≤ tt };
+    },
     (
       record { in_range = lit< tt; frame = record { opened = refl; continues = tt; parts = tt }; may = record { number = lit< tt; held = refl; was = refl; shaded = λ marking. absurd cc } },
       (
-        record { in_range = lit< tt; frame = record { opened = refl; continues = tt; parts = tt }; may = record { some = lit≤ tt; few = lit≤ tt; lawful = refl; next = refl; names = lit≤ tt; room = lit≤ tt } },
+        record {
+          in_range = lit< tt;
+          frame = record { opened = refl; continues = tt; parts = tt };
+          may = record { some = lit≤ tt; few = lit≤ tt; lawful = refl; next = refl; names = lit≤ tt; room = lit≤ tt };
+        },
         (
           record { in_range = lit< tt; frame = record { opened = refl; continues = tt; parts = tt }; may = record { held = refl; pair = record { left = lit< tt; serial = refl; index = lit< tt } } },
           (
-            record { in_range = lit< tt; frame = record { opened = refl; continues = tt; parts = tt }; may = record { some = lit≤ tt; few = lit≤ tt; lawful = refl; next = refl; names = lit≤ tt; room = lit≤ tt } },
+            record {
+              in_range = lit< tt;
+              frame = record { opened = refl; continues = tt; parts = tt };
+              may = record { some = lit≤ tt; few = lit≤ tt; lawful = refl; next = refl; names = lit≤ tt; room = lit≤ tt };
+            },
             tt,
           ),
         ),
@@ -40,7 +52,11 @@ pub four_linked_legal : Legal small four_linked
 four_linked_legal = legal_join small beginning four_made (drop 6 four_linked) four_made_legal (
   record { in_range = lit< tt; frame = record { opened = refl; continues = tt; parts = tt }; may = record { held = refl; pair = record { left = lit< tt; serial = refl; index = lit< tt } } },
   (
-    record { in_range = lit< tt; frame = record { opened = refl; continues = tt; parts = tt }; may = record { place = record { held = refl; in_range = lit< tt }; held = refl; was = refl; shaded = λ marking. absurd cc } },
+    record {
+      in_range = lit< tt;
+      frame = record { opened = refl; continues = tt; parts = tt };
+      may = record { place = record { held = refl; in_range = lit< tt }; held = refl; was = refl; shaded = λ marking. absurd cc };
+    },
     (
       record { in_range = lit< tt; frame = record { opened = refl; continues = tt; parts = tt }; may = (record { held = refl; first = lit≤ tt; last = lit< tt }, refl) },
       (
@@ -116,7 +132,8 @@ either_side Q false x y p q = q
 abbrev pub AllCells : (Name → Type 0) → (Name → ℕ → Option Name) → Type 0
 AllCells Q cell = (n : Name) (slot : ℕ) → IfSome (cell n slot) Q
 
-pub all_cells_set : (Q : Name → Type 0) (cell : Name → ℕ → Option Name) (at : Name) (slot : ℕ) (to : Option Name) → AllCells Q cell → IfSome to Q → AllCells Q (set_name cell at (set_at (cell at) slot to))
+pub all_cells_set : (Q : Name → Type 0) (cell : Name → ℕ → Option Name) (at : Name) (slot : ℕ) (to : Option Name) → AllCells Q cell → IfSome to Q
+    → AllCells Q (set_name cell at (set_at (cell at) slot to))
 all_cells_set Q cell at slot to all new n k = go (same_name n at)
   where
     go : (b : Bool) → IfSome ((cond b (set_at (cell at) slot to) (cell n)) k) Q
@@ -149,7 +166,9 @@ no_root u out r = let wrong : has u (name 1) ≡ true = subst (λ (n : Name). ha
 -- the marked units are closed: the first is marked, and the second
 marked_closed : IsClosed (graph to_commit.world) (is_marked to_commit.marks)
 marked_closed = record {
-  roots = all_contain (λ u. IsRootUnit (graph to_commit.world) u → is_marked to_commit.marks u ≡ true) to_commit.world.units (λ r. refl, (λ r. refl, (λ r. absurd (no_root (name 3 ∷ name 4 ∷ []) refl r), tt)));
+  roots =
+      all_contain (λ u. IsRootUnit (graph to_commit.world) u → is_marked to_commit.marks u ≡ true) to_commit.world.units
+      (λ r. refl, (λ r. refl, (λ r. absurd (no_root (name 3 ∷ name 4 ∷ []) refl r), tt)));
   refers = λ u v unit is r. all_contain (λ v. has v (name 2) ≡ true → is_marked to_commit.marks v ≡ true) to_commit.world.units (λ h. refl, (λ h. refl, (λ h. absurd cc, tt))) v unit
       (subst (λ (n : Name). has v n ≡ true) (is_second u v r) r.target);
 }
@@ -163,7 +182,11 @@ scans_second v unit r =
 
 pub cluster_removed_legal : Legal small cluster_removed
 cluster_removed_legal = legal_join small beginning second_marked (drop 20 cluster_removed) second_marked_legal (
-  record { in_range = lit< tt; frame = record { opened = refl; continues = refl; parts = tt }; may = record { place = record { held = refl; in_range = lit< tt }; held = refl; was = refl; shaded = λ marking. refl } },
+  record {
+    in_range = lit< tt;
+    frame = record { opened = refl; continues = refl; parts = tt };
+    may = record { place = record { held = refl; in_range = lit< tt }; held = refl; was = refl; shaded = λ marking. refl };
+  },
   (
     record { in_range = lit< tt; frame = record { opened = refl; continues = tt; parts = tt }; may = tt },
     (
@@ -173,7 +196,16 @@ cluster_removed_legal = legal_join small beginning second_marked (drop 20 cluste
         (
           record { in_range = lit< tt; slice = refl; may = record { scanned = refl; within = lit< tt; stop = (lit< tt, inl refl) } },
           (
-            record { finishes = refl; may = record { marking = refl; closed = refl; black = refl; unreached = λ u unit white. outside_closed (graph to_commit.world) (is_marked to_commit.marks) marked_closed u white } },
+            record {
+              finishes = refl;
+              may =
+                  record {
+                    marking = refl;
+                    closed = refl;
+                    black = refl;
+                    unreached = λ u unit white. outside_closed (graph to_commit.world) (is_marked to_commit.marks) marked_closed u white;
+                  };
+            },
             tt,
           ),
         ),
@@ -266,7 +298,18 @@ busy_legal = legal_join small beginning cluster_released (drop 42 busy) cluster_
         (
           record { in_range = lit< tt; slice = refl; may = tt },
           (
-            record { in_range = lit< tt; slice = refl; may = record { white = record { marking = refl; living = refl; unmarked = refl }; from = name 1 ∷ []; unit = (0, lit< tt, refl); grey = refl; refers = inl (record { from = name 1; slot = 0; to = name 2; cell = refl; member = refl; target = refl }) } },
+            record {
+              in_range = lit< tt;
+              slice = refl;
+              may =
+                  record {
+                    white = record { marking = refl; living = refl; unmarked = refl };
+                    from = name 1 ∷ [];
+                    unit = (0, lit< tt, refl);
+                    grey = refl;
+                    refers = inl (record { from = name 1; slot = 0; to = name 2; cell = refl; member = refl; target = refl });
+                  };
+            },
             (
               record { in_range = lit< tt; slice = refl; may = record { marking = refl; living = refl; grey = refl; targets = λ v unit r. all_marked v unit } },
               (
@@ -274,7 +317,17 @@ busy_legal = legal_join small beginning cluster_released (drop 42 busy) cluster_
                 (
                   record { in_range = lit< tt; slice = refl; may = record { scanned = refl; within = lit< tt; stop = (lit< tt, inl refl) } },
                   (
-                    record { finishes = refl; may = record { marking = refl; closed = refl; black = refl; unreached = λ u unit white reached. let marked : is_marked to_commit_again.marks u ≡ true = all_marked u unit in cc } },
+                    record {
+                      finishes = refl;
+                      may =
+                          record {
+                            marking = refl;
+                            closed = refl;
+                            black = refl;
+                            unreached = λ u unit white reached. let marked : is_marked to_commit_again.marks u ≡ true = all_marked u unit in
+                                cc;
+                          };
+                    },
                     (
                       record { finishes = refl; may = (record { gathering = refl; within = lit≤ tt; count = refl; looked = lit≤ tt; different = refl; removed = refl; new = refl }, refl, refl) },
                       tt,

@@ -104,7 +104,8 @@ total q w = count_by q (members w.units) + count_by q (names_of w.removals)
 
 made_total : (q : Name → Bool) (units : List (List Name)) (u : List Name) → count_by q (members (units ++ u ∷ [])) ≡ count_by q (members units) + count_by q u
 made_total q units u =
-    ap (count_by q) (flat_map-append (λ (u : List Name). u) units (u ∷ [])) ∙ count-append q (members units) (u ++ []) ∙ ap (λ (v : List Name). count_by q (members units) + count_by q v) (append-nil u)
+    ap (count_by q) (flat_map-append (λ (u : List Name). u) units (u ∷ [])) ∙ count-append q (members units) (u ++ [])
+    ∙ ap (λ (v : List Name). count_by q (members units) + count_by q v) (append-nil u)
 
 released_total : (q : Name → Bool) (gone : List Name) (rs : List Removal)
     → count_by q (names_of (filter (λ r. not (has gone r.name)) rs)) + count_by q (names_of (filter (λ r. has gone r.name) rs)) ≡ count_by q (names_of rs)
@@ -123,15 +124,22 @@ next_total z s p (act.Make kinds first) may none q =
 next_total z s Collector (act.CommitGc commit.Done) may none q =
     let left : names_of s.world.removals ≡ [] = ap (λ (rs : List Removal). names_of rs) (none may.may.marking) in
     let zero : count_by q (names_of s.world.removals) ≡ 0 = ap (count_by q) left in
-    let new : count_by q (names_of (map (λ n. record { name = n; stage = Removed; polls = 0 }) (members (white_units s.marks s.world)))) ≡ count_by q (members (white_units s.marks s.world)) = ap (count_by q) (names_new (members (white_units s.marks s.world))) in
+    let new : count_by q (names_of (map (λ n. record { name = n; stage = Removed; polls = 0 }) (members (white_units s.marks s.world))))
+    ≡ count_by q (members (white_units s.marks s.world)) = ap (count_by q) (names_new (members (white_units s.marks s.world))) in
     let parts = count_parts q (is_marked s.marks) s.world.units in
     omega arith
 next_total z s (Lane lane) (act.CommitGc commit.Done) may none q = absurd may.may
 next_total z s (Marker marker) (act.CommitGc commit.Done) may none q = absurd may.may
 next_total z s p (act.BeginGc begin.Started) may none q = refl
-next_total z s p (act.Begun of) may none q = ap (λ (ns : List Name). count_by q (members s.world.units) + count_by q ns + 0) (names_kept of (λ r. record r { stage = Begun }) (λ r. refl) s.world.removals)
-next_total z s p (act.Asked of poll answer) may none q = ap (λ (ns : List Name). count_by q (members s.world.units) + count_by q ns + 0) (names_kept of (λ r. record r { polls = poll }) (λ r. refl) s.world.removals)
-next_total z s p (act.Finished of) may none q = ap (λ (ns : List Name). count_by q (members s.world.units) + count_by q ns + 0) (names_kept of (λ r. record r { stage = Finished }) (λ r. refl) s.world.removals)
+next_total z s p (act.Begun of) may none q =
+    ap (λ (ns : List Name). count_by q (members s.world.units) + count_by q ns + 0)
+    (names_kept of (λ r. record r { stage = Begun }) (λ r. refl) s.world.removals)
+next_total z s p (act.Asked of poll answer) may none q =
+    ap (λ (ns : List Name). count_by q (members s.world.units) + count_by q ns + 0)
+    (names_kept of (λ r. record r { polls = poll }) (λ r. refl) s.world.removals)
+next_total z s p (act.Finished of) may none q =
+    ap (λ (ns : List Name). count_by q (members s.world.units) + count_by q ns + 0)
+    (names_kept of (λ r. record r { stage = Finished }) (λ r. refl) s.world.removals)
 next_total z s p (act.Released of) may none q = let parts = released_total q (members (filter (begins_with of) s.world.last_removed)) s.world.removals in omega arith
 next_total z s p (act.Loose of) may none q = ap (λ (ns : List Name). count_by q ns + count_by q (names_of s.world.removals) + 0) (members_parted of s.world.units)
 next_total z s p _ may none q = refl

@@ -117,7 +117,8 @@ commit_is_decided_holds z old new other a b f g =
 
 -- ---- create
 
-one_create : (z : Sizes) (s : State) (lane : ℕ) (kinds : List Kind) (a b : Result (Unit {0}) CreateErr) → LaneMay z s lane (act_of_create s.world lane kinds a) → LaneMay z s lane (act_of_create s.world lane kinds b) → a ≡ b
+one_create : (z : Sizes) (s : State) (lane : ℕ) (kinds : List Kind) (a b : Result (Unit {0}) CreateErr)
+    → LaneMay z s lane (act_of_create s.world lane kinds a) → LaneMay z s lane (act_of_create s.world lane kinds b) → a ≡ b
 one_create z s lane kinds (Ok done) (Ok other) f g = refl
 one_create z s lane kinds (Ok done) (Err (create.Full left)) f g = absurd (let a = f.room in let b = g.rest in let c = g.short in omega arith)
 one_create z s lane kinds (Ok done) (Err (create.NamesSpent left)) f g = absurd (let a = f.names in let b = g.rest in let c = g.short in omega arith)

@@ -104,7 +104,9 @@ all_covered rs gone found are all n k = go (unit_with gone n (sym (in_gone n) �
     in_order_of (g ∷ found) f u k b h = front (or_true _ _ h) (in_order_of found f u k b)
       where
         front : (same_name f g ≡ true) ⊎ (has found f ≡ true) → (has found f ≡ true → Among (order_of gone found) u) → Among (order_of gone (g ∷ found)) u
-        front (inl e) rest = among_left (filter (begins_with g) gone) (order_of gone found) u (filter_among (begins_with g) gone u k (subst (λ (x : Name). begins_with x u ≡ true) (same_name_true f g e) b))
+        front (inl e) rest =
+            among_left (filter (begins_with g) gone) (order_of gone found) u
+            (filter_among (begins_with g) gone u k (subst (λ (x : Name). begins_with x u ≡ true) (same_name_true f g e) b))
         front (inr e) rest = among_right (filter (begins_with g) gone) (order_of gone found) u (rest e)
 
     go : ((u : List Name) × Among gone u × (has u n ≡ true)) → has (members (order_of gone found)) n ≡ true
@@ -192,7 +194,8 @@ begun_destroying w of gathered h = changed w of (λ r. record r { stage = Begun 
     let before = h.all_first a b (was_there w of Begun Removed a refl is) k in
     (named_kept of (λ r. record r { stage = Begun }) (λ r. refl) w.removals b ∙ before.0, not_more w of Begun Finished b refl before.1)) h
 
-polled_destroying : (w : World) (of : Name) (polls : ℕ) → w.phase ≢ Gathering → IsDestroying w.phase w.removals w.last_removed w.found → IsDestroying w.phase (polled w of polls).removals w.last_removed w.found
+polled_destroying : (w : World) (of : Name) (polls : ℕ) → w.phase ≢ Gathering → IsDestroying w.phase w.removals w.last_removed w.found
+    → IsDestroying w.phase (polled w of polls).removals w.last_removed w.found
 polled_destroying w of polls gathered h = changed w of (λ r. record r { polls = polls }) (λ r. refl) gathered (λ a b is k.
     let before = h.all_first a b (sym (is_at-polled w of polls Removed a) ∙ is) k in
     (named_kept of (λ r. record r { polls = polls }) (λ r. refl) w.removals b ∙ before.0, is_at-polled w of polls Finished b ∙ before.1)) h
@@ -214,7 +217,9 @@ released_unit w of different next =
 
 -- what is removed after a release
 pub left_after : (w : World) (of n : Name) → in_removals (released w of) n ≡ (not (has (released_by w of) n) && in_removals w n)
-left_after w of n = any-filter_same (named n) (λ r. not (has (released_by w of) r.name)) (not (has (released_by w of) n)) (λ r e. ap (λ (m : Name). not (has (released_by w of) m)) (sym (same_name_true n r.name e))) w.removals
+left_after w of n =
+    any-filter_same (named n) (λ r. not (has (released_by w of) r.name)) (not (has (released_by w of) n))
+    (λ r e. ap (λ (m : Name). not (has (released_by w of) m)) (sym (same_name_true n r.name e))) w.removals
 
 released_destroying : (w : World) (of : Name) → w.phase ≢ Gathering → ((n : Name) → is_at w Removed n ≡ false) → to_release w ≡ Some of
     → IsDestroying w.phase w.removals w.last_removed w.found → IsDestroying w.phase (released w of).removals w.last_removed w.found

@@ -75,7 +75,8 @@ parting_stays units units' lane broken loosened stays h = record {
     front_stays (m ∷ front) k some own = let here : has (m ∷ front) m ≡ true = or_left _ _ (same_name_refl m) in stays (m ∷ front) m k here (own m here)
 
 -- the units of a lane stay while another lane acts
-others_stay : (z : Sizes) (s : State) (l : ℕ) (a : Act) (lane : ℕ) → (lane == l) ≡ false → MayBy z s (Lane l) a → AreApart s.world.kinds s.world.units → (u : List Name) (n : Name) → Among s.world.units u → has u n ≡ true → n.lane ≡ lane
+others_stay : (z : Sizes) (s : State) (l : ℕ) (a : Act) (lane : ℕ) → (lane == l) ≡ false → MayBy z s (Lane l) a → AreApart s.world.kinds s.world.units
+    → (u : List Name) (n : Name) → Among s.world.units u → has u n ≡ true → n.lane ≡ lane
     → Among (next_world s.marks s.world (Lane l) a).units u
 others_stay z s l (act.Make kinds first) lane other may apart u n k h own = among_left s.world.units _ u k
 others_stay z s l (act.Loose of) lane other may apart u n k h own =
@@ -141,27 +142,47 @@ own_parting z s lane (act.Loose of) may apart h = go (s.frames lane).broken (s.f
     w : World
     w = with_loose s.world of
 
-    go : (broken loosened : List Name) → (s.frames lane).loosened ≡ loosened → ((broken ≡ []) × (loosened ≡ [])) ⊎ (IsParting s.world.units lane broken loosened × (is_open s.world (Lane lane) ≡ true)) → PartsOn broken (act.Loose of)
-        → ((broken_by s.world broken of ≡ []) × (of ∷ (s.frames lane).loosened ≡ [])) ⊎ (IsParting w.units lane (broken_by s.world broken of) (of ∷ (s.frames lane).loosened) × (is_open s.world (Lane lane) ≡ true))
-    go [] loosened same (inl none) on = inr (subst (λ (ns : List Name). IsParting w.units lane (unit_of s.world of) (of ∷ ns)) (sym (same ∙ none.1)) (first_leaves s lane of apart may.may.own may.may.last), may.frame.opened)
+    go : (broken loosened : List Name) → (s.frames lane).loosened ≡ loosened
+        → ((broken ≡ []) × (loosened ≡ [])) ⊎ (IsParting s.world.units lane broken loosened × (is_open s.world (Lane lane) ≡ true))
+        → PartsOn broken (act.Loose of)
+        → ((broken_by s.world broken of ≡ []) × (of ∷ (s.frames lane).loosened ≡ []))
+        ⊎ (IsParting w.units lane (broken_by s.world broken of) (of ∷ (s.frames lane).loosened) × (is_open s.world (Lane lane) ≡ true))
+    go [] loosened same (inl none) on =
+        inr (
+          subst (λ (ns : List Name). IsParting w.units lane (unit_of s.world of) (of ∷ ns)) (sym (same ∙ none.1))
+              (first_leaves s lane of apart may.may.own may.may.last),
+          may.frame.opened,
+        )
     go [] loosened same (inr h) on = absurd (h.0.some (no_front h.0.front (sym h.0.whole)))
       where
         no_front : (front : List Name) → front ++ loosened ≡ [] → front ≡ []
         no_front [] e = refl
         no_front (n ∷ front) e = absurd cc
     go (first ∷ rest) loosened same (inl none) on = absurd (let wrong = none.0 in cc)
-    go (first ∷ rest) loosened same (inr h) on = inr (subst (λ (ns : List Name). IsParting w.units lane (first ∷ rest) (of ∷ ns)) (sym same) (next_leaves s lane of (first ∷ rest) loosened apart on may.may.last h.0), may.frame.opened)
+    go (first ∷ rest) loosened same (inr h) on =
+        inr (
+          subst (λ (ns : List Name). IsParting w.units lane (first ∷ rest) (of ∷ ns)) (sym same)
+              (next_leaves s lane of (first ∷ rest) loosened apart on may.may.last h.0),
+          may.frame.opened,
+        )
 own_parting z s lane _ may apart h = inl (refl, refl)
 
-next_parting : (z : Sizes) (s : State) (e : Entry) → May z s e → AreApart s.world.kinds s.world.units → ((lane : ℕ) → Parting s.world lane (s.frames lane)) → (lane : ℕ) → Parting (next s e).world lane ((next s e).frames lane)
+next_parting : (z : Sizes) (s : State) (e : Entry) → May z s e → AreApart s.world.kinds s.world.units
+    → ((lane : ℕ) → Parting s.world lane (s.frames lane)) → (lane : ℕ) → Parting (next s e).world lane ((next s e).frames lane)
 next_parting z s e may apart h = go e.pass e.act may
   where
     go : (p : Pass) (a : Act) → MayBy z s p a → (lane : ℕ) → Parting (next_world s.marks s.world p a) lane ((next_by s (next_world s.marks s.world p a) p a).frames lane)
-    go (Lane l) a may = set_at_other s.frames l (next_frame l s.world (next_world s.marks s.world (Lane l) a) (s.frames l) a) (Parting (next_world s.marks s.world (Lane l) a)) (own_parting z s l a may apart (h l)) (λ i other. one i other (h i))
+    go (Lane l) a may =
+        set_at_other s.frames l (next_frame l s.world (next_world s.marks s.world (Lane l) a) (s.frames l) a)
+        (Parting (next_world s.marks s.world (Lane l) a)) (own_parting z s l a may apart (h l)) (λ i other. one i other (h i))
       where
         one : (i : ℕ) → (i == l) ≡ false → Parting s.world i (s.frames i) → Parting (next_world s.marks s.world (Lane l) a) i (s.frames i)
         one i other (inl none) = inl none
-        one i other (inr (parting, opened)) = inr (parting_stays s.world.units _ i (s.frames i).broken (s.frames i).loosened (others_stay z s l a i other may apart) parting, still_open s (Lane l) a i (λ x. other_lane i l x other) opened)
+        one i other (inr (parting, opened)) =
+            inr (
+              parting_stays s.world.units _ i (s.frames i).broken (s.frames i).loosened (others_stay z s l a i other may apart) parting,
+              still_open s (Lane l) a i (λ x. other_lane i l x other) opened,
+            )
     go (Marker m) a may = λ lane. one lane (h lane)
       where
         same : (a : Act) → MayBy z s (Marker m) a → (u : List Name) (n : Name) → Among s.world.units u → has u n ≡ true → n.lane ≡ n.lane → Among (next_world s.marks s.world (Marker m) a).units u
@@ -173,7 +194,11 @@ next_parting z s e may apart h = go e.pass e.act may
 
         one : (lane : ℕ) → Parting s.world lane (s.frames lane) → Parting (next_world s.marks s.world (Marker m) a) lane (s.frames lane)
         one lane (inl none) = inl none
-        one lane (inr (parting, opened)) = inr (parting_stays s.world.units _ lane (s.frames lane).broken (s.frames lane).loosened (λ u n k h own. same a may u n k h refl) parting, still_open s (Marker m) a lane (no_lane lane m) opened)
+        one lane (inr (parting, opened)) =
+            inr (
+              parting_stays s.world.units _ lane (s.frames lane).broken (s.frames lane).loosened (λ u n k h own. same a may u n k h refl) parting,
+              still_open s (Marker m) a lane (no_lane lane m) opened,
+            )
     go Collector a may = λ lane. one lane (h lane)
       where
         same : (a : Act) → MayBy z s Collector a → (lane : ℕ) → is_open s.world (Lane lane) ≡ true → (u : List Name) → Among s.world.units u → Among (next_world s.marks s.world Collector a).units u
@@ -185,7 +210,11 @@ next_parting z s e may apart h = go e.pass e.act may
 
         one : (lane : ℕ) → Parting s.world lane (s.frames lane) → Parting (next_world s.marks s.world Collector a) lane (s.frames lane)
         one lane (inl none) = inl none
-        one lane (inr (parting, opened)) = inr (parting_stays s.world.units _ lane (s.frames lane).broken (s.frames lane).loosened (λ u n k h own. same a may lane opened u k) parting, still_open s Collector a lane (no_collector lane) opened)
+        one lane (inr (parting, opened)) =
+            inr (
+              parting_stays s.world.units _ lane (s.frames lane).broken (s.frames lane).loosened (λ u n k h own. same a may lane opened u k) parting,
+              still_open s Collector a lane (no_collector lane) opened,
+            )
 
 pub parting : (z : Sizes) (history : List Entry) → Legal z history → (lane : ℕ) → Parting (after history) lane ((state_of history).frames lane)
 parting z = by_states z (λ s. (lane : ℕ) → Parting s.world lane (s.frames lane)) (λ lane. inl (refl, refl)) (λ xs e legal may h. next_parting z (state_of xs) e may (units_apart z xs legal) h)
@@ -214,14 +243,17 @@ one_left (n ∷ m ∷ front) rest first some e =
     absurd (omega arith)
 
 -- each member of the unit that was taken apart is one by itself
-broken_alone : (s : State) (lane : ℕ) (at : Name) (count : ℕ) (broken loosened : List Name) → ((broken ≡ []) × (loosened ≡ [])) ⊎ (IsParting s.world.units lane broken loosened × (is_open s.world (Lane lane) ≡ true))
+broken_alone : (s : State) (lane : ℕ) (at : Name) (count : ℕ) (broken loosened : List Name)
+    → ((broken ≡ []) × (loosened ≡ [])) ⊎ (IsParting s.world.units lane broken loosened × (is_open s.world (Lane lane) ≡ true))
     → AreLoose s.world at broken loosened count → (n : Name) → has broken n ≡ true → IsUnit (graph s.world) (n ∷ [])
 broken_alone s lane at count [] loosened h loose n k = absurd cc
 broken_alone s lane at count (first ∷ rest) loosened (inl none) loose n k = absurd (let wrong = none.0 in cc)
 broken_alone s lane at count (first ∷ rest) loosened (inr (p, opened)) loose n k =
     let all : first ∷ rest ≡ p.front ++ rest = p.whole ∙ ap (λ (ns : List Name). p.front ++ ns) loose.1 in
     let front : p.front ≡ first ∷ [] = one_left p.front rest first p.some (sym all) in
-    among_contains _ _ (alone (subst (λ (u : List Name). Among s.world.units u) front p.left) (λ m i. p.alone m (subst (λ (ns : List Name). Among ns m) (sym loose.1) i)) n (has_among (first ∷ rest) n k))
+    among_contains _ _
+    (alone (subst (λ (u : List Name). Among s.world.units u) front p.left)
+    (λ m i. p.alone m (subst (λ (ns : List Name). Among ns m) (sym loose.1) i)) n (has_among (first ∷ rest) n k))
   where
     alone : Among s.world.units (first ∷ []) → ((m : Name) → Among rest m → Among s.world.units (m ∷ [])) → (n : Name) → (first ≡ n) ⊎ Among rest n → Among s.world.units (n ∷ [])
     alone here others n (inl e) = subst (λ (m : Name). Among s.world.units (m ∷ [])) e here
@@ -229,12 +261,18 @@ broken_alone s lane at count (first ∷ rest) loosened (inr (p, opened)) loose n
 
 -- an object that is the whole of its unit is one by itself
 whole_alone : (w : World) (at : Name) → unit_of w at ≡ at ∷ [] → IsUnit (graph w) (at ∷ [])
-whole_alone w at e = among_contains _ _ (subst (λ (u : List Name). Among w.units u) e (found_unit w.units at (unit_lives w at at (ap (λ (u : List Name). has u at) e ∙ or_left _ _ (same_name_refl at)))).0)
+whole_alone w at e =
+    among_contains _ _
+    (subst (λ (u : List Name). Among w.units u) e
+    (found_unit w.units at (unit_lives w at at (ap (λ (u : List Name). has u at) e ∙ or_left _ _ (same_name_refl at)))).0)
 
-taken_apart : (s : State) (lane : ℕ) (at : Name) (count : ℕ) → Parting s.world lane (s.frames lane) → AreLoose s.world at (s.frames lane).broken (s.frames lane).loosened count → IsTakenApart s.world at count
+taken_apart : (s : State) (lane : ℕ) (at : Name) (count : ℕ) → Parting s.world lane (s.frames lane)
+    → AreLoose s.world at (s.frames lane).broken (s.frames lane).loosened count → IsTakenApart s.world at count
 taken_apart s lane at count h loose = go (s.frames lane).broken (s.frames lane).loosened h loose
   where
-    go : (broken loosened : List Name) → ((broken ≡ []) × (loosened ≡ [])) ⊎ (IsParting s.world.units lane broken loosened × (is_open s.world (Lane lane) ≡ true)) → AreLoose s.world at broken loosened count → IsTakenApart s.world at count
+    go : (broken loosened : List Name)
+        → ((broken ≡ []) × (loosened ≡ [])) ⊎ (IsParting s.world.units lane broken loosened × (is_open s.world (Lane lane) ≡ true))
+        → AreLoose s.world at broken loosened count → IsTakenApart s.world at count
     go [] loosened h loose = record {
       unit = at ∷ [];
       member = or_left _ _ (same_name_refl at);
@@ -266,7 +304,8 @@ broken_stays s lane (n ∷ of) first rest e =
     broken_stays (next s (entry (Lane lane) (act.Loose n))) lane of first rest (ap (λ (f : Frame). f.broken) (set_at_same s.frames lane _) ∙ ap (λ (b : List Name). broken_by s.world b n) e)
 
 -- and all that leave are of it
-leave_it : (z : Sizes) (s : State) (lane : ℕ) (of : List Name) (first : Name) (rest : List Name) → (s.frames lane).broken ≡ first ∷ rest → LegalFrom z s (leaving lane of) → (n : Name) → Among of n → has (first ∷ rest) n ≡ true
+leave_it : (z : Sizes) (s : State) (lane : ℕ) (of : List Name) (first : Name) (rest : List Name) → (s.frames lane).broken ≡ first ∷ rest
+    → LegalFrom z s (leaving lane of) → (n : Name) → Among of n → has (first ∷ rest) n ≡ true
 leave_it z s lane [] first rest e legal n k = absurd k
 leave_it z s lane (m ∷ of) first rest e legal n (inl same) = subst (λ (x : Name). has (first ∷ rest) x ≡ true) same (subst (λ (b : List Name). PartsOn b (act.Loose m)) e legal.0.frame.parts)
 leave_it z s lane (m ∷ of) first rest e legal n (inr k) =
@@ -282,9 +321,13 @@ unit_left s lane (n ∷ of) u none k =
 module _ (z : Sizes) (s : State) (lane : ℕ) (at : Name) (count : ℕ) (apart : AreApart s.world.kinds s.world.units) (whole : (s.frames lane).broken ≡ []) where
   -- so many members; each is alone after the notes, and the other units stay
   abbrev Parted : State → Type 0
-  Parted t = (count ≡ length (unit_of s.world at)) × ((n : Name) → has (unit_of s.world at) n ≡ true → IsUnit (graph t.world) (n ∷ [])) × ((u : List Name) → Among s.world.units u → has u at ≡ false → Among t.world.units u)
+  Parted t =
+      (count ≡ length (unit_of s.world at)) × ((n : Name) → has (unit_of s.world at) n ≡ true → IsUnit (graph t.world) (n ∷ []))
+      × ((u : List Name) → Among s.world.units u → has u at ≡ false → Among t.world.units u)
 
-  unit_is : (of : List Name) → LegalFrom z s (leaving lane of) → AreLoose (run s (leaving lane of)).world at ((run s (leaving lane of)).frames lane).broken ((run s (leaving lane of)).frames lane).loosened count
+  unit_is : (of : List Name) → LegalFrom z s (leaving lane of)
+      → AreLoose (run s (leaving lane of)).world at ((run s (leaving lane of)).frames lane).broken ((run s (leaving lane of)).frames lane).loosened
+      count
       → ((n : Name) → has ((run s (leaving lane of)).frames lane).broken n ≡ true → IsUnit (graph (run s (leaving lane of)).world) (n ∷ [])) → Parted (run s (leaving lane of))
   unit_is [] legal loose alone =
       let here : (unit_of s.world at ≡ at ∷ []) × (count ≡ 1) = subst (λ (b : List Name). AreLoose s.world at b (s.frames lane).loosened count) whole loose in (
@@ -306,7 +349,10 @@ module _ (z : Sizes) (s : State) (lane : ℕ) (at : Name) (count : ℕ) (apart :
           let stays = broken_stays s1 lane of m rest (broken1 ∙ e) in
           let loose_is : AreLoose (run s1 (leaving lane of)).world at (m ∷ rest) ((run s1 (leaving lane of)).frames lane).loosened count =
           subst (λ (b : List Name). AreLoose (run s1 (leaving lane of)).world at b ((run s1 (leaving lane of)).frames lane).loosened count) stays loose in
-          let there : Among s.world.units (m ∷ rest) = subst (λ (u : List Name). Among s.world.units u) e (found_unit s.world.units first (unit_lives s.world first first (ap (λ (u : List Name). has u first) e ∙ ends_own first (m ∷ rest) ends))).0 in
+          let there : Among s.world.units (m ∷ rest) =
+          subst (λ (u : List Name). Among s.world.units u) e
+          (found_unit s.world.units first
+          (unit_lives s.world first first (ap (λ (u : List Name). has u first) e ∙ ends_own first (m ∷ rest) ends))).0 in
           let unit : unit_of s.world at ≡ m ∷ rest = own_unit s.world apart (m ∷ rest) at there loose_is.0 in (
             loose_is.2 ∙ ap (λ (u : List Name). length u) (sym unit),
             λ n k. alone n (ap (λ (u : List Name). has u n) (stays ∙ sym unit) ∙ k),
@@ -331,7 +377,9 @@ dissolves_unit_holds z old new lane at count h =
     let joined : state_of (old ++ leaving lane h.call.0.of) ≡ run s (leaving lane h.call.0.of) = run-append beginning old (leaving lane h.call.0.of) in
     let own : Parting (run s (leaving lane h.call.0.of)).world lane ((run s (leaving lane h.call.0.of)).frames lane) =
     subst (λ (t : State). Parting t.world lane (t.frames lane)) joined (parting z (old ++ leaving lane h.call.0.of) middle lane) in
-    let alone = broken_alone (run s (leaving lane h.call.0.of)) lane at count ((run s (leaving lane h.call.0.of)).frames lane).broken ((run s (leaving lane h.call.0.of)).frames lane).loosened own pieces.1.0.may.loose in
+    let alone =
+    broken_alone (run s (leaving lane h.call.0.of)) lane at count ((run s (leaving lane h.call.0.of)).frames lane).broken
+    ((run s (leaving lane h.call.0.of)).frames lane).loosened own pieces.1.0.may.loose in
     let parted = unit_is z s lane at count (units_apart z old start) h.call.1 h.call.0.of pieces.0 pieces.1.0.may.loose alone in
     let left : state_of new ≡ next (run s (leaving lane h.call.0.of)) last =
     state_after z old new (Lane lane) (act.Dissolve at count) h ∙ ap (run s) entries ∙ run-append s (leaving lane h.call.0.of) (last ∷ []) in
@@ -362,14 +410,18 @@ stays_alone_holds z before more legal n alone lives =
 pub collected_singly_holds : CollectedSingly
 collected_singly_holds z old mid more new lane at count budget h collects n k lives =
     let start : Legal z (mid ++ more) =
-    (legal_split z beginning (mid ++ more) (by Collector collects.begins) (legal_split z beginning ((mid ++ more) ++ by Collector collects.begins) _ (subst (Legal z) collects.grown collects.legal)).0).0 in
+    (legal_split z beginning (mid ++ more) (by Collector collects.begins)
+    (legal_split z beginning ((mid ++ more) ++ by Collector collects.begins) _ (subst (Legal z) collects.grown collects.legal)).0).0 in
     let alone : unit_of (after (mid ++ more)) n ≡ n ∷ [] = stays_alone_holds z mid more start n ((dissolves_unit_holds z old mid lane at count h).alone n k).0 lives in
     let own : has (n ∷ []) n ≡ true = or_left _ _ (same_name_refl n) in
     let exact = collect_is_exact_holds z (mid ++ more) new budget collects in (
       λ now.
           let unit = found_unit (after new).units n now in
           let reached = (exact (unit_of (after new) n)).0 (among_contains _ _ unit.0) in
-          let same : n ∷ [] ≡ unit_of (after new) n = sym alone ∙ own_unit (after (mid ++ more)) (units_apart z (mid ++ more) start) (unit_of (after new) n) n (contains_among _ _ (reached_unit (graph (after (mid ++ more))) (unit_of (after new) n) reached)) unit.1 in
+          let same : n ∷ [] ≡ unit_of (after new) n =
+          sym alone
+          ∙ own_unit (after (mid ++ more)) (units_apart z (mid ++ more) start) (unit_of (after new) n) n
+          (contains_among _ _ (reached_unit (graph (after (mid ++ more))) (unit_of (after new) n) reached)) unit.1 in
           subst (λ (u : List Name). IsReached (graph (after (mid ++ more))) u) (sym same) reached,
       λ reached. member_lives (after new) (n ∷ []) n (contains_among _ _ ((exact (n ∷ [])).1 reached)) own,
     )

@@ -40,7 +40,11 @@ closed_unmarked_legal = legal_join small beginning root_marked (drop 12 closed_u
 
 closed_marked_legal : Legal small closed_marked
 closed_marked_legal = legal_join small beginning second_marked (drop 20 closed_marked) second_marked_legal (
-  record { in_range = lit< tt; frame = record { opened = refl; continues = refl; parts = tt }; may = record { place = record { held = refl; in_range = lit< tt }; held = refl; was = refl; shaded = λ marking. refl } },
+  record {
+    in_range = lit< tt;
+    frame = record { opened = refl; continues = refl; parts = tt };
+    may = record { place = record { held = refl; in_range = lit< tt }; held = refl; was = refl; shaded = λ marking. refl };
+  },
   (record { in_range = lit< tt; frame = record { opened = refl; continues = tt; parts = tt }; may = tt }, tt),
 )
 
@@ -49,7 +53,11 @@ two_scanned_legal = (legal_split small beginning (take 50 busy) (drop 50 busy) b
 
 made_amid_legal : Legal small made_amid
 made_amid_legal = legal_join small beginning second_met (drop 19 made_amid) second_met_legal (
-  record { in_range = lit< tt; frame = record { opened = refl; continues = tt; parts = tt }; may = record { some = lit≤ tt; few = lit≤ tt; lawful = refl; next = refl; names = lit≤ tt; room = lit≤ tt } },
+  record {
+    in_range = lit< tt;
+    frame = record { opened = refl; continues = tt; parts = tt };
+    may = record { some = lit≤ tt; few = lit≤ tt; lawful = refl; next = refl; names = lit≤ tt; room = lit≤ tt };
+  },
   tt,
 )
 
@@ -66,13 +74,25 @@ reference_read_legal : Legal small reference_read
 reference_read_legal = (
   record { in_range = lit< tt; frame = refl; may = refl },
   (
-    record { in_range = lit< tt; frame = record { opened = refl; continues = tt; parts = tt }; may = record { some = lit≤ tt; few = lit≤ tt; lawful = refl; next = refl; names = lit≤ tt; room = lit≤ tt } },
+    record {
+      in_range = lit< tt;
+      frame = record { opened = refl; continues = tt; parts = tt };
+      may = record { some = lit≤ tt; few = lit≤ tt; lawful = refl; next = refl; names = lit≤ tt; room = lit≤ tt };
+    },
     (
       record { in_range = lit< tt; frame = record { opened = refl; continues = tt; parts = tt }; may = record { number = lit< tt; held = refl; was = refl; shaded = λ marking. absurd cc } },
       (
-        record { in_range = lit< tt; frame = record { opened = refl; continues = tt; parts = tt }; may = record { some = lit≤ tt; few = lit≤ tt; lawful = refl; next = refl; names = lit≤ tt; room = lit≤ tt } },
+        record {
+          in_range = lit< tt;
+          frame = record { opened = refl; continues = tt; parts = tt };
+          may = record { some = lit≤ tt; few = lit≤ tt; lawful = refl; next = refl; names = lit≤ tt; room = lit≤ tt };
+        },
         (
-          record { in_range = lit< tt; frame = record { opened = refl; continues = tt; parts = tt }; may = record { place = record { held = refl; in_range = lit< tt }; held = refl; was = refl; shaded = λ marking. absurd cc } },
+          record {
+            in_range = lit< tt;
+            frame = record { opened = refl; continues = tt; parts = tt };
+            may = record { place = record { held = refl; in_range = lit< tt }; held = refl; was = refl; shaded = λ marking. absurd cc };
+          },
           (
             record { in_range = lit< tt; frame = record { opened = refl; continues = tt; parts = tt }; may = tt },
             (
@@ -94,14 +114,25 @@ reference_read_legal = (
 
 taken_before_legal : Legal small taken_before
 taken_before_legal = legal_join small beginning reference_read (drop 10 taken_before) reference_read_legal (
-  record { in_range = lit< tt; frame = record { opened = refl; continues = tt; parts = tt }; may = record { place = record { held = refl; in_range = lit< tt }; held = tt; was = refl; shaded = λ marking. tt } },
+  record {
+    in_range = lit< tt;
+    frame = record { opened = refl; continues = tt; parts = tt };
+    may = record { place = record { held = refl; in_range = lit< tt }; held = tt; was = refl; shaded = λ marking. tt };
+  },
   (record { in_range = lit< tt; slice = refl; may = tt }, tt),
 )
 
 taken_within_legal : Legal small taken_within
 taken_within_legal = legal_join small beginning reference_read (drop 10 taken_within) reference_read_legal (
   record { in_range = lit< tt; slice = refl; may = tt },
-  (record { in_range = lit< tt; frame = record { opened = refl; continues = tt; parts = tt }; may = record { place = record { held = refl; in_range = lit< tt }; held = tt; was = refl; shaded = λ marking. tt } }, tt),
+  (
+    record {
+      in_range = lit< tt;
+      frame = record { opened = refl; continues = tt; parts = tt };
+      may = record { place = record { held = refl; in_range = lit< tt }; held = tt; was = refl; shaded = λ marking. tt };
+    },
+    tt,
+  ),
 )
 
 -- ---- behind a reference that was taken away before the slice
@@ -135,15 +166,42 @@ pub edges : Edges
 unfolding count_ones
 edges = record {
   notes_end = record {
-    allowed = record { before = rooted_one_legal; right = record { finishes = refl; may = record { white = record { marking = refl; living = refl; unmarked = refl }; started = refl; root = inl (name 1, refl, inl refl) } } };
+    allowed =
+        record {
+          before = rooted_one_legal;
+          right =
+              record {
+                finishes = refl;
+                may =
+                    record { white = record { marking = refl; living = refl; unmarked = refl }; started = refl; root = inl (name 1, refl, inl refl) };
+              };
+        };
     refused = record { before = asked_again_legal; wrong = λ may. let wrong : false ≡ true = may.may.started in cc };
   };
   held_in_frame = record {
-    allowed = record { before = four_made_legal; right = record { in_range = lit< tt; frame = record { opened = refl; continues = tt; parts = tt }; may = record { held = refl; was = refl; shaded = λ on marking. absurd cc } } };
+    allowed =
+        record {
+          before = four_made_legal;
+          right =
+              record {
+                in_range = lit< tt;
+                frame = record { opened = refl; continues = tt; parts = tt };
+                may = record { held = refl; was = refl; shaded = λ on marking. absurd cc };
+              };
+        };
     refused = record { before = frame_again_legal; wrong = λ may. let wrong : false ≡ true = may.may.held in cc };
   };
   held_by_lane = record {
-    allowed = record { before = two_lanes_legal; right = record { in_range = lit< tt; frame = record { opened = refl; continues = tt; parts = tt }; may = record { held = refl; was = refl; shaded = λ on marking. absurd cc } } };
+    allowed =
+        record {
+          before = two_lanes_legal;
+          right =
+              record {
+                in_range = lit< tt;
+                frame = record { opened = refl; continues = tt; parts = tt };
+                may = record { held = refl; was = refl; shaded = λ on marking. absurd cc };
+              };
+        };
     refused = record { before = two_lanes_legal; wrong = λ may. let wrong : false ≡ true = may.may.held in cc };
   };
   idle_in_company = record {
@@ -167,15 +225,49 @@ edges = record {
     refused = record { before = root_marked_legal; wrong = λ may. let wrong : 0 < 0 = may.may.some in omega (arith, wrong) };
   };
   made_is_marked = record {
-    allowed = record { before = made_amid_legal; right = record { in_range = lit< tt; frame = record { opened = refl; continues = tt; parts = tt }; may = record { place = record { held = refl; in_range = lit< tt }; held = refl; was = refl; shaded = λ marking. refl } } };
+    allowed =
+        record {
+          before = made_amid_legal;
+          right =
+              record {
+                in_range = lit< tt;
+                frame = record { opened = refl; continues = tt; parts = tt };
+                may = record { place = record { held = refl; in_range = lit< tt }; held = refl; was = refl; shaded = λ marking. refl };
+              };
+        };
     refused = record { before = made_amid_legal; wrong = λ may. let wrong : false ≡ true = may.may.shaded refl in cc };
   };
   mark_is_paid = record {
-    allowed = record { before = second_marked_legal; right = record { in_range = lit< tt; frame = record { opened = refl; continues = refl; parts = tt }; may = record { place = record { held = refl; in_range = lit< tt }; held = refl; was = refl; shaded = λ marking. refl } } };
+    allowed =
+        record {
+          before = second_marked_legal;
+          right =
+              record {
+                in_range = lit< tt;
+                frame = record { opened = refl; continues = refl; parts = tt };
+                may = record { place = record { held = refl; in_range = lit< tt }; held = refl; was = refl; shaded = λ marking. refl };
+              };
+        };
     refused = record { before = second_marked_legal; wrong = λ may. may.frame.continues };
   };
   referred_within = record {
-    allowed = record { before = taken_within_legal; right = record { in_range = lit< tt; slice = refl; may = record { white = record { marking = refl; living = refl; unmarked = refl }; from = name 1 ∷ []; unit = (0, lit< tt, refl); grey = refl; refers = inr (inl (record { from = name 1; slot = 0; to = name 2; cell = refl; member = refl; target = refl })) } } };
+    allowed =
+        record {
+          before = taken_within_legal;
+          right =
+              record {
+                in_range = lit< tt;
+                slice = refl;
+                may =
+                    record {
+                      white = record { marking = refl; living = refl; unmarked = refl };
+                      from = name 1 ∷ [];
+                      unit = (0, lit< tt, refl);
+                      grey = refl;
+                      refers = inr (inl (record { from = name 1; slot = 0; to = name 2; cell = refl; member = refl; target = refl }));
+                    };
+              };
+        };
     refused = record { before = taken_before_legal; wrong = λ may. never_referred may.may.from (first_is_grey may.may.from may.may.unit may.may.grey) may.may.refers };
   };
   none_from_commit = record {
@@ -183,7 +275,16 @@ edges = record {
     refused = record { before = removed_frame_legal; wrong = λ may. let wrong : ◌≡◌ {A = Option Name} (Some (name 3)) None = may.may in cc };
   };
   full_until_release = record {
-    allowed = record { before = removed_frame_legal; right = record { in_range = lit< tt; frame = record { opened = refl; continues = tt; parts = tt }; may = record { names = lit≤ tt; rest = refl; short = lit< tt } } };
+    allowed =
+        record {
+          before = removed_frame_legal;
+          right =
+              record {
+                in_range = lit< tt;
+                frame = record { opened = refl; continues = tt; parts = tt };
+                may = record { names = lit≤ tt; rest = refl; short = lit< tt };
+              };
+        };
     refused = record { before = cluster_released_legal; wrong = λ may. let wrong : ◌≡◌ {A = ℕ} 4 6 = may.may.rest in omega (arith, wrong) };
   };
   finished_next = record {
@@ -191,7 +292,15 @@ edges = record {
     refused = record { before = agreed_legal; wrong = λ may. let wrong : ◌≡◌ {A = Option Name} (Some (name 3)) None = may.finishes in cc };
   };
   stops_late = record {
-    allowed = record { before = two_begun_legal; right = record { finishes = refl; may = record { gathered = λ e. cc; ran = refl; within = lit≤ tt; rest = refl; early = λ h. absurd (omega arith) } } };
+    allowed =
+        record {
+          before = two_begun_legal;
+          right =
+              record {
+                finishes = refl;
+                may = record { gathered = λ e. cc; ran = refl; within = lit≤ tt; rest = refl; early = λ h. absurd (omega arith) };
+              };
+        };
     refused = record { before = two_begun_legal; wrong = λ may. let wrong : ◌≡◌ {A = ℕ} 2 0 = may.may.early (lit< tt) in omega (arith, wrong) };
   };
 }

@@ -54,7 +54,8 @@ last_stored : (stored : List Name) (o : Option Name) (x : Name) → o ≡ Some x
 last_stored stored None x e = absurd cc
 last_stored stored (Some n) x e = among_right stored (n ∷ []) x (inl cc)
 
-from_start_next : (w0 : World) (stored : List Name) (s : State) (p : Pass) (a : Act) → is_done a ≡ false → IsFromStart w0 stored s.world → IsFromStart w0 (stored ++ option_to_list (stored_by a)) (next_world s.marks s.world p a)
+from_start_next : (w0 : World) (stored : List Name) (s : State) (p : Pass) (a : Act) → is_done a ≡ false → IsFromStart w0 stored s.world
+    → IsFromStart w0 (stored ++ option_to_list (stored_by a)) (next_world s.marks s.world p a)
 from_start_next w0 stored s p (act.WriteRef at slot to old) other h = record {
   cells = λ f k x e. cells_after s.world.cell at slot to (λ f k c. c ≡ Some x → Among (stored ++ option_to_list to) x ⊎ (w0.cell f k ≡ Some x))
       (λ e. inl (last_stored stored to x e)) (λ f k e. or_more stored (option_to_list to) x (h.cells f k x e)) f k e;
@@ -74,7 +75,10 @@ from_start_next w0 stored s p (act.Root at on old) other h = record {
 from_start_next w0 stored s p (act.SetStrong number to old) other h = record {
   cells = λ f k x e. or_more stored (option_to_list to) x (h.cells f k x e);
   rooted = λ x e. or_more stored (option_to_list to) x (h.rooted x e);
-  strong = λ l i x e. set_at_here s.world.strong (lane_of p) (set_at (s.world.strong (lane_of p)) number to) (λ l row. (i : ℕ) → row i ≡ Some x → Among (stored ++ option_to_list to) x ⊎ (w0.strong l i ≡ Some x))
+  strong =
+      λ l i x e.
+      set_at_here s.world.strong (lane_of p) (set_at (s.world.strong (lane_of p)) number to)
+      (λ l row. (i : ℕ) → row i ≡ Some x → Among (stored ++ option_to_list to) x ⊎ (w0.strong l i ≡ Some x))
       (set_at_here (s.world.strong (lane_of p)) number to (λ i c. c ≡ Some x → Among (stored ++ option_to_list to) x ⊎ (w0.strong (lane_of p) i ≡ Some x))
       (λ e. inl (last_stored stored to x e)) (λ i e. or_more stored (option_to_list to) x (h.strong (lane_of p) i x e)))
       (λ l i e. or_more stored (option_to_list to) x (h.strong l i x e)) l i e;
@@ -138,14 +142,17 @@ pays_stored w m (act.Root at true old) h = (at, refl, h)
 pays_stored w m (act.Root at false old) h = absurd h
 pays_stored w m _ h = absurd h
 
-own_pays : (z : Sizes) (s : State) (lane : ℕ) (m : Name) (a : Act) → MayBy z s (Lane lane) a → is_open s.world (Lane lane) ≡ true → (s.frames lane).owed ≡ Some m → (n : Name) × (stored_by a ≡ Some n) × (has (unit_of s.world m) n ≡ true)
+own_pays : (z : Sizes) (s : State) (lane : ℕ) (m : Name) (a : Act) → MayBy z s (Lane lane) a → is_open s.world (Lane lane) ≡ true
+    → (s.frames lane).owed ≡ Some m → (n : Name) × (stored_by a ≡ Some n) × (has (unit_of s.world m) n ≡ true)
 own_pays z s lane m (act.FrameOpen phase) may opened owed = absurd (both_ways (is_open s.world (Lane lane)) may.frame opened)
 own_pays z s lane m a may opened owed = pays_stored s.world m a (rw owed at may.frame.continues)
 
-source_next : (z : Sizes) (w0 : World) (stored : List Name) (s : State) (p : Pass) (a : Act) → MayBy z s p a → AreApart s.world.kinds s.world.units → ((u : List Name) → Among w0.units u → Among s.world.units u)
+source_next : (z : Sizes) (w0 : World) (stored : List Name) (s : State) (p : Pass) (a : Act) → MayBy z s p a → AreApart s.world.kinds s.world.units
+    → ((u : List Name) → Among w0.units u → Among s.world.units u)
     → (v : List Name) → Among w0.units v → IsSource stored s v → IsSource (stored ++ option_to_list (stored_by a)) (next_by s (next_world s.marks s.world p a) p a) v
 source_next z w0 stored s p a may apart units v k (inl (n, has_n, among)) = inl (n, has_n, among_left stored (option_to_list (stored_by a)) n among)
-source_next z w0 stored s (Marker marker) a may apart units v k (inr (lane, m, opened, owed, has_m)) = inr (lane, m, open_next s (Marker marker) a (Lane lane) (λ c. let wrong = c.0 in cc) opened, owed, has_m)
+source_next z w0 stored s (Marker marker) a may apart units v k (inr (lane, m, opened, owed, has_m)) =
+    inr (lane, m, open_next s (Marker marker) a (Lane lane) (λ c. let wrong = c.0 in cc) opened, owed, has_m)
 source_next z w0 stored s Collector a may apart units v k (inr (lane, m, opened, owed, has_m)) = inr (lane, m, open_next s Collector a (Lane lane) (λ c. let wrong = c.0 in cc) opened, owed, has_m)
 source_next z w0 stored s (Lane l) a may apart units v k (inr (lane, m, opened, owed, has_m)) = go (lane == l) refl
   where
@@ -169,7 +176,8 @@ source_next z w0 stored s (Lane l) a may apart units v k (inr (lane, m, opened, 
         own_eq : (i : ℕ) → (i == i) ≡ true
         own_eq i = eq-eqb i i refl
 
-floats_next : (z : Sizes) (w0 : World) (stored : List Name) (s : State) (p : Pass) (a : Act) → MayBy z s p a → AreApart s.world.kinds s.world.units → ((u : List Name) → Among w0.units u → Among s.world.units u)
+floats_next : (z : Sizes) (w0 : World) (stored : List Name) (s : State) (p : Pass) (a : Act) → MayBy z s p a → AreApart s.world.kinds s.world.units
+    → ((u : List Name) → Among w0.units u → Among s.world.units u)
     → (u : List Name) → Floats w0 stored s u → Floats w0 (stored ++ option_to_list (stored_by a)) (next_by s (next_world s.marks s.world p a) p a) u
 floats_next z w0 stored s p a may apart units u (inl reached) = inl reached
 floats_next z w0 stored s p a may apart units u (inr (v, rest, k, source, walk)) = inr (v, rest, k, source_next z w0 stored s p a may apart units v k source, walk)
@@ -210,7 +218,8 @@ root_floats w0 stored s w u start k (n, has_n, root) = go root
 -- ---- each entry
 
 -- a slice that is open was open, or is opened now
-slice_was_open : (z : Sizes) (s : State) (p : Pass) (a : Act) (m : ℕ) → MayBy z s p a → is_open (next_world s.marks s.world p a) (Marker m) ≡ true → (is_open s.world (Marker m) ≡ true) ⊎ ((p ≡ Marker m) × (a ≡ act.SliceOpen))
+slice_was_open : (z : Sizes) (s : State) (p : Pass) (a : Act) (m : ℕ) → MayBy z s p a → is_open (next_world s.marks s.world p a) (Marker m) ≡ true
+    → (is_open s.world (Marker m) ≡ true) ⊎ ((p ≡ Marker m) × (a ≡ act.SliceOpen))
 slice_was_open z s (Lane lane) (act.FrameOpen phase) m may h = inl h
 slice_was_open z s (Marker marker) (act.FrameOpen phase) m may h = absurd may.may
 slice_was_open z s Collector (act.FrameOpen phase) m may h = absurd may.may
@@ -268,7 +277,8 @@ module _ (w0 : World) (stored : List Name) where
   moments_next s p _ w now h = (now, h)
 
 -- what is made is new
-fresh_next : (z : Sizes) (w0 : World) (s : State) (p : Pass) (a : Act) → MayBy z s p a → s.world.phase ≡ Marking → ((n : Name) → IsMade w0 n → IsMade s.world n) → ((n : Name) → has s.marks.fresh n ≡ true → IsMade w0 n → ⊥)
+fresh_next : (z : Sizes) (w0 : World) (s : State) (p : Pass) (a : Act) → MayBy z s p a → s.world.phase ≡ Marking
+    → ((n : Name) → IsMade w0 n → IsMade s.world n) → ((n : Name) → has s.marks.fresh n ≡ true → IsMade w0 n → ⊥)
     → (n : Name) → has (next_marks s.marks (next_world s.marks s.world p a) p a).fresh n ≡ true → IsMade w0 n → ⊥
 fresh_next z w0 s p (act.Make kinds first) may marking made h n is m = go (or_true _ _ (sym (list_any-append (same_name n) (names_from (lane_of p) first kinds) s.marks.fresh) ∙ is))
   where
@@ -291,7 +301,8 @@ module _ (z : Sizes) (w0 : World) (stored : List Name) (s : State) (named : IsNa
       let at = that_moment w0 stored (λ w. Refers (graph w) may.may.from (unit_of s.world of)) (s.slices m).moments (h.in_slices m may.slice) may.may.refers in
       let unit : unit_of s.world of ≡ u = own_unit s.world apart u of (h.units u k) has_of in
       floats_next z w0 stored s (Marker m) (act.Kept of) may apart h.units u
-      (marker_floats w0 stored s at.0 may.may.from u named apart h at.1 (contains_among _ _ may.may.unit) (and_true _ _ may.may.grey).0 k (subst (λ (v : List Name). Refers (graph at.0) may.may.from v) unit at.2))
+      (marker_floats w0 stored s at.0 may.may.from u named apart h at.1 (contains_among _ _ may.may.unit) (and_true _ _ may.may.grey).0 k
+      (subst (λ (v : List Name). Refers (graph at.0) may.may.from v) unit at.2))
   marked_floats (Lane lane) of may u k has_of = inr (u, [], k, inr (lane, of, may.frame.opened, ap (λ f. f.owed) (set_at_same s.frames lane _), has_of), refl)
 
   kept_next : (p : Pass) (a : Act) → MayBy z s p a → (k : Name) (u : List Name) → has (next_marks s.marks (next_world s.marks s.world p a) p a).kept k ≡ true → Among w0.units u → has u k ≡ true
@@ -425,8 +436,14 @@ unreached_is_removed_holds z before during legal all u unit unreached unstored =
     neither (inl reached) = unreached reached
     neither (inr stored) = unstored stored
 
-    go : IsUnit (graph (next (state_of (before ++ started ∷ during)) done).world) u ⊎ IsParted (next (state_of (before ++ started ∷ during)) done).world done u ⊎ ((done ≡ done) × Contains (next (state_of (before ++ started ∷ during)) done).world.last_removed u)
+    go : IsUnit (graph (next (state_of (before ++ started ∷ during)) done).world) u
+        ⊎ IsParted (next (state_of (before ++ started ∷ during)) done).world done u
+        ⊎ ((done ≡ done) × Contains (next (state_of (before ++ started ∷ during)) done).world.last_removed u)
         → Contains (next (state_of (before ++ started ∷ during)) done).world.last_removed u
-    go (inl stays) = absurd (neither (floating_is_bounded_holds z before during legal all u unit (subst (λ (s : State). IsUnit (graph s.world) u) (sym (one_more (before ++ started ∷ during) done)) stays)))
+    go (inl stays) =
+        absurd
+        (neither
+        (floating_is_bounded_holds z before during legal all u unit
+        (subst (λ (s : State). IsUnit (graph s.world) u) (sym (one_more (before ++ started ∷ during) done)) stays)))
     go (inr (inl parts)) = absurd (let wrong = parts.by in cc)
     go (inr (inr gone)) = gone.1

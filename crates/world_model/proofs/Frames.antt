@@ -52,7 +52,8 @@ find_front p (x ∷ xs) ys h = go (p x) refl h (find_front p xs ys)
     go true e h rest = refl
     go false e h rest = rest h
 
-unit_stays : (s : State) (p : Pass) (a : Act) (n : Name) → is_done a ≡ false → loosens a (unit_of s.world n) ≡ false → in_world s.world n ≡ true → unit_of (next_world s.marks s.world p a) n ≡ unit_of s.world n
+unit_stays : (s : State) (p : Pass) (a : Act) (n : Name) → is_done a ≡ false → loosens a (unit_of s.world n) ≡ false → in_world s.world n ≡ true
+    → unit_of (next_world s.marks s.world p a) n ≡ unit_of s.world n
 unit_stays s p (act.Make kinds first) n other whole h = ap (λ (o : Option (List Name)). unwrap_or o []) (find_front (λ u. has u n) s.world.units (names_from (lane_of p) first kinds ∷ []) h)
 unit_stays s p (act.CommitGc commit.Done) n other whole h = absurd cc
 unit_stays s p (act.BeginGc begin.Started) n other whole h = refl
@@ -60,7 +61,8 @@ unit_stays s p (act.Loose of) n other whole h = unit_of_loose s.world of n ∙ s
 unit_stays s p _ n other whole h = refl
 
 -- also over a commit, where the object outlives it
-unit_stays_living : (s : State) (p : Pass) (a : Act) (n : Name) → AreApart s.world.kinds s.world.units → loosens a (unit_of s.world n) ≡ false → in_world s.world n ≡ true → in_world (next_world s.marks s.world p a) n ≡ true
+unit_stays_living : (s : State) (p : Pass) (a : Act) (n : Name) → AreApart s.world.kinds s.world.units → loosens a (unit_of s.world n) ≡ false
+    → in_world s.world n ≡ true → in_world (next_world s.marks s.world p a) n ≡ true
     → unit_of (next_world s.marks s.world p a) n ≡ unit_of s.world n
 unit_stays_living s p (act.CommitGc commit.Done) n apart whole lives now =
     let unit = found_unit (filter (is_marked s.marks) s.world.units) n now in
@@ -80,7 +82,8 @@ lived_then z s e n may made now = old (lived s e.pass e.act n now)
 
 -- An object stays in its unit under entries none of which takes the last member out of that.
 unit_stays_by : (z : Sizes) (before more : List Entry) (n : Name) (Q : Entry → Type 0) → Legal z (before ++ more) → in_world (after before) n ≡ true → in_world (after (before ++ more)) n ≡ true
-    → ((s : State) (e : Entry) → AreApart s.world.kinds s.world.units → May z s e → Q e → in_world s.world n ≡ true → unit_of s.world n ≡ unit_of (after before) n → loosens e.act (unit_of s.world n) ≡ false)
+    → ((s : State) (e : Entry) → AreApart s.world.kinds s.world.units → May z s e → Q e → in_world s.world n ≡ true
+    → unit_of s.world n ≡ unit_of (after before) n → loosens e.act (unit_of s.world n) ≡ false)
     → AllByRecursion Q more → unit_of (after (before ++ more)) n ≡ unit_of (after before) n
 unit_stays_by z before more n Q legal lives now none all =
     (by_more_states z before (λ s. IsMade s.world n × (in_world s.world n ≡ true → unit_of s.world n ≡ unit_of (after before) n)) Q
@@ -101,7 +104,8 @@ unit_stays_holds z before more legal n lives now all =
     unit_stays_by z before more n (λ e. loosens e.act (unit_of (after before) n) ≡ false) legal lives now (λ s e apart may q old same. ap (loosens e.act) same ∙ q) all
 
 -- a lane parts no unit of another lane
-no_other : (z : Sizes) (s : State) (p : Pass) (a : Act) (n : Name) → AreApart s.world.kinds s.world.units → MayBy z s p a → p ≢ Lane n.lane → in_world s.world n ≡ true → loosens a (unit_of s.world n) ≡ false
+no_other : (z : Sizes) (s : State) (p : Pass) (a : Act) (n : Name) → AreApart s.world.kinds s.world.units → MayBy z s p a → p ≢ Lane n.lane
+    → in_world s.world n ≡ true → loosens a (unit_of s.world n) ≡ false
 no_other z s p (act.Loose of) n apart may other lives = false_from_ne_true _ (λ ends.
     let by = loosens_may z s p of may in
     let unit = found_unit s.world.units n lives in
@@ -171,9 +175,12 @@ phase_joins a b c (inr e) (inr f) = absurd (let wrong : Idle ≡ Gathering = sym
 pub open_next : (s : State) (p : Pass) (a : Act) (q : Pass) → (Closes q (record { pass = p; act = a }) → ⊥) → is_open s.world q ≡ true → is_open (next_world s.marks s.world p a) q ≡ true
 open_next s p (act.FrameOpen phase) q other h = or_right _ _ h
 open_next s p act.SliceOpen q other h = or_right _ _ h
-open_next s p act.FrameClose q other h = filter_any (same_pass q) (λ x. not (same_pass p x)) s.world.opened (λ x e. not_from_false _ (false_from_ne_true _ (λ f. other (same_pass_true p x f ∙ sym (same_pass_true q x e), inl refl)))) h
+open_next s p act.FrameClose q other h =
+    filter_any (same_pass q) (λ x. not (same_pass p x)) s.world.opened
+    (λ x e. not_from_false _ (false_from_ne_true _ (λ f. other (same_pass_true p x f ∙ sym (same_pass_true q x e), inl refl)))) h
 open_next s p (act.Slice budget reply) q other h =
-    filter_any (same_pass q) (λ x. not (same_pass p x)) s.world.opened (λ x e. not_from_false _ (false_from_ne_true _ (λ f. other (same_pass_true p x f ∙ sym (same_pass_true q x e), inr (budget, reply, refl))))) h
+    filter_any (same_pass q) (λ x. not (same_pass p x)) s.world.opened
+    (λ x e. not_from_false _ (false_from_ne_true _ (λ f. other (same_pass_true p x f ∙ sym (same_pass_true q x e), inr (budget, reply, refl))))) h
 open_next s p (act.BeginGc begin.Started) q other h = h
 open_next s p (act.CommitGc commit.Done) q other h = h
 open_next s p _ q other h = h
@@ -444,7 +451,9 @@ actor_below z Collector h = h
 
 pub few_open_holds : FewOpen
 few_open_holds z history legal =
-    let h = by_states z (λ s. AreOpenOnce z s.world.opened) (record { actors = λ p k. absurd k; once = λ p. omega arith }) (λ xs e legal may h. open_once_next z (state_of xs) e.pass e.act may h) history legal in
+    let h =
+    by_states z (λ s. AreOpenOnce z s.world.opened) (record { actors = λ p k. absurd k; once = λ p. omega arith })
+    (λ xs e legal may h. open_once_next z (state_of xs) e.pass e.act may h) history legal in
     record {
       actors = λ p k. h.actors p (contains_among _ p k);
       once = h.once;

@@ -61,17 +61,33 @@ garbage_legal : Legal small garbage
 garbage_legal = (
   record { in_range = lit< tt; frame = refl; may = refl },
   (
-    record { in_range = lit< tt; frame = record { opened = refl; continues = tt; parts = tt }; may = record { some = lit≤ tt; few = lit≤ tt; lawful = refl; next = refl; names = lit≤ tt; room = lit≤ tt } },
+    record {
+      in_range = lit< tt;
+      frame = record { opened = refl; continues = tt; parts = tt };
+      may = record { some = lit≤ tt; few = lit≤ tt; lawful = refl; next = refl; names = lit≤ tt; room = lit≤ tt };
+    },
     (
       record { in_range = lit< tt; frame = record { opened = refl; continues = tt; parts = tt }; may = record { held = refl; pair = record { left = lit< tt; serial = refl; index = lit< tt } } },
       (
-        record { in_range = lit< tt; frame = record { opened = refl; continues = tt; parts = tt }; may = record { some = lit≤ tt; few = lit≤ tt; lawful = refl; next = refl; names = lit≤ tt; room = lit≤ tt } },
+        record {
+          in_range = lit< tt;
+          frame = record { opened = refl; continues = tt; parts = tt };
+          may = record { some = lit≤ tt; few = lit≤ tt; lawful = refl; next = refl; names = lit≤ tt; room = lit≤ tt };
+        },
         (
           record { in_range = lit< tt; frame = record { opened = refl; continues = tt; parts = tt }; may = record { held = refl; pair = record { left = lit< tt; serial = refl; index = lit< tt } } },
           (
-            record { in_range = lit< tt; frame = record { opened = refl; continues = tt; parts = tt }; may = record { some = lit≤ tt; few = lit≤ tt; lawful = refl; next = refl; names = lit≤ tt; room = lit≤ tt } },
+            record {
+              in_range = lit< tt;
+              frame = record { opened = refl; continues = tt; parts = tt };
+              may = record { some = lit≤ tt; few = lit≤ tt; lawful = refl; next = refl; names = lit≤ tt; room = lit≤ tt };
+            },
             (
-              record { in_range = lit< tt; frame = record { opened = refl; continues = tt; parts = tt }; may = record { place = record { held = refl; in_range = lit< tt }; held = refl; was = refl; shaded = λ marking. absurd cc } },
+              record {
+                in_range = lit< tt;
+                frame = record { opened = refl; continues = tt; parts = tt };
+                may = record { place = record { held = refl; in_range = lit< tt }; held = refl; was = refl; shaded = λ marking. absurd cc };
+              },
               (
                 record { in_range = lit< tt; frame = record { opened = refl; continues = tt; parts = tt }; may = tt },
                 tt,
@@ -96,7 +112,11 @@ stored_legal = legal_join small beginning garbage (started ∷ garbage_stored) g
         (
           record { in_range = lit< tt; frame = record { opened = refl; continues = tt; parts = tt }; may = record { white = record { marking = refl; living = refl; unmarked = refl }; held = refl } },
           (
-            record { in_range = lit< tt; frame = record { opened = refl; continues = refl; parts = tt }; may = record { place = record { held = refl; in_range = lit< tt }; held = refl; was = refl; shaded = λ marking. refl } },
+            record {
+              in_range = lit< tt;
+              frame = record { opened = refl; continues = refl; parts = tt };
+              may = record { place = record { held = refl; in_range = lit< tt }; held = refl; was = refl; shaded = λ marking. refl };
+            },
             tt,
           ),
         ),
@@ -116,7 +136,9 @@ one_of_two = all_cells_set (λ n. (n ≡ name 2) ⊎ (n ≡ name 3)) _ (name 1) 
 
 -- and these are marked
 targets_marked : (u v : List Name) → IsUnit (graph third_marked.world) v → Refers (graph third_marked.world) u v → is_marked third_marked.marks v ≡ true
-targets_marked u v unit r = all_contain (λ v. (has v (name 2) || has v (name 3)) ≡ true → is_marked third_marked.marks v ≡ true) third_marked.world.units (λ h. absurd cc, (λ h. refl, (λ h. refl, tt))) v unit
+targets_marked u v unit r =
+    all_contain (λ v. (has v (name 2) || has v (name 3)) ≡ true → is_marked third_marked.marks v ≡ true) third_marked.world.units
+    (λ h. absurd cc, (λ h. refl, (λ h. refl, tt))) v unit
     (go (subst (λ (o : Option Name). IfSome o (λ n. (n ≡ name 2) ⊎ (n ≡ name 3))) r.cell (one_of_two r.from r.slot)))
   where
     go : (r.to ≡ name 2) ⊎ (r.to ≡ name 3) → (has v (name 2) || has v (name 3)) ≡ true
@@ -129,7 +151,18 @@ marked_legal = legal_join small beginning (garbage ++ started ∷ garbage_stored
   (
     record { in_range = lit< tt; slice = refl; may = tt },
     (
-      record { in_range = lit< tt; slice = refl; may = record { white = record { marking = refl; living = refl; unmarked = refl }; from = name 2 ∷ []; unit = (1, lit< tt, refl); grey = refl; refers = inl (record { from = name 2; slot = 0; to = name 3; cell = refl; member = refl; target = refl }) } },
+      record {
+        in_range = lit< tt;
+        slice = refl;
+        may =
+            record {
+              white = record { marking = refl; living = refl; unmarked = refl };
+              from = name 2 ∷ [];
+              unit = (1, lit< tt, refl);
+              grey = refl;
+              refers = inl (record { from = name 2; slot = 0; to = name 3; cell = refl; member = refl; target = refl });
+            };
+      },
       (
         record { in_range = lit< tt; slice = refl; may = record { marking = refl; living = refl; grey = refl; targets = λ v unit r. targets_marked (name 2 ∷ []) v unit r } },
         (

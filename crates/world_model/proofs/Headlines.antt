@@ -55,7 +55,9 @@ lives_or_removed z history e legal n lives = go (in_world now n) refl
         }
           where
             removes : RemovesUnreached (after history) now
-            removes = subst (λ (x : Entry). RemovesUnreached (after history) (after (history ++ x ∷ []))) (sym gone.0) (commit_removes_unreached_holds z history (subst (λ (x : Entry). Legal z (history ++ x ∷ [])) gone.0 legal))
+            removes =
+                subst (λ (x : Entry). RemovesUnreached (after history) (after (history ++ x ∷ []))) (sym gone.0)
+                (commit_removes_unreached_holds z history (subst (λ (x : Entry). Legal z (history ++ x ∷ [])) gone.0 legal))
 
 pub headline_holds : HeadlineHolds
 headline_holds z lawful history legal = record {

@@ -27,9 +27,12 @@ WithUnits w held = (n m : Name) → has held n ≡ true → has (unit_of w n) m 
 -- units of names that live, each with all its members
 units_closed : (w : World) → AreApart w.kinds w.units → (ns : List Name) → ((g : Name) → Among ns g → in_world w g ≡ true) → WithUnits w (flat_map (unit_of w) ns)
 units_closed w apart [] live n m h e = absurd cc
-units_closed w apart (g ∷ ns) live n m h e = go (λ later. units_closed w apart ns (λ x k. live x (inr k)) n m later e) (or_true _ _ (sym (list_any-append (same_name n) (unit_of w g) (flat_map (unit_of w) ns)) ∙ h))
+units_closed w apart (g ∷ ns) live n m h e =
+    go (λ later. units_closed w apart ns (λ x k. live x (inr k)) n m later e)
+    (or_true _ _ (sym (list_any-append (same_name n) (unit_of w g) (flat_map (unit_of w) ns)) ∙ h))
   where
-    go : (has (flat_map (unit_of w) ns) n ≡ true → has (flat_map (unit_of w) ns) m ≡ true) → (has (unit_of w g) n ≡ true) ⊎ (has (flat_map (unit_of w) ns) n ≡ true) → has (unit_of w g ++ flat_map (unit_of w) ns) m ≡ true
+    go : (has (flat_map (unit_of w) ns) n ≡ true → has (flat_map (unit_of w) ns) m ≡ true)
+        → (has (unit_of w g) n ≡ true) ⊎ (has (flat_map (unit_of w) ns) n ≡ true) → has (unit_of w g ++ flat_map (unit_of w) ns) m ≡ true
     go rest (inl here) =
         let unit = found_unit w.units g (live g (inl refl)) in
         let same : unit_of w n ≡ unit_of w g = own_unit w apart (unit_of w g) n unit.0 here in
@@ -64,7 +67,8 @@ own_closed z s lane a may apart bars h n m is e = go (or_true _ _ (sym (list_any
         list_any-append (same_name m) new (s.frames lane).held
         ∙ or_right (has new m) _ (still_closed z s (Lane lane) a (s.frames lane).held apart (by_no_lane z s lane a may) (bars.holding.lives lane) h n m old e)
 
-next_closed : (z : Sizes) (s : State) (e : Entry) → May z s e → AreApart s.world.kinds s.world.units → IsBarred s → ((lane : ℕ) → WithUnits s.world (s.frames lane).held) → (lane : ℕ) → WithUnits (next s e).world ((next s e).frames lane).held
+next_closed : (z : Sizes) (s : State) (e : Entry) → May z s e → AreApart s.world.kinds s.world.units → IsBarred s
+    → ((lane : ℕ) → WithUnits s.world (s.frames lane).held) → (lane : ℕ) → WithUnits (next s e).world ((next s e).frames lane).held
 next_closed z s e may apart bars h = go e.pass e.act may
   where
     go : (p : Pass) (a : Act) → MayBy z s p a → (lane : ℕ) → WithUnits (next_world s.marks s.world p a) ((next_by s (next_world s.marks s.world p a) p a).frames lane).held

@@ -55,7 +55,11 @@ garbage_is_marked_holds z history legal n = by_entries z (λ xs. GarbageIs xs n)
     first = record { marked = (λ e. absurd cc, λ h. absurd (contains_among [] _ h.told)); made = λ e. absurd cc }
 
     step : (xs : List Entry) (e : Entry) → Legal z xs → May z (state_of xs) e → GarbageIs xs n → GarbageIs (xs ++ e ∷ []) n
-    step xs e legal may h = record { marked = (λ k. told (was (now k)), λ k. then_is (marked k.lane k.old (among_append xs (e ∷ []) _ (contains_among _ _ k.told)))); made = λ k. is_made (was (now k)) }
+    step xs e legal may h =
+        record {
+          marked = (λ k. told (was (now k)), λ k. then_is (marked k.lane k.old (among_append xs (e ∷ []) _ (contains_among _ _ k.told))));
+          made = λ k. is_made (was (now k));
+        }
       where
         now : (after (xs ++ e ∷ [])).garbage n ≡ true → (next (state_of xs) e).world.garbage n ≡ true
         now k = subst (λ (s : State). s.world.garbage n ≡ true) (one_more xs e) k

@@ -111,7 +111,8 @@ which_part of v u h = go (ends_with of v) refl h
     one (inl e) = e
     one (inr k) = absurd k
 
-    go : (b : Bool) → ends_with of v ≡ b → Among (if b then but_last v ∷ (of ∷ []) ∷ [] else v ∷ []) u → ((ends_with of v ≡ true) × ((but_last v ≡ u) ⊎ (of ∷ [] ≡ u))) ⊎ ((ends_with of v ≡ false) × (v ≡ u))
+    go : (b : Bool) → ends_with of v ≡ b → Among (if b then but_last v ∷ (of ∷ []) ∷ [] else v ∷ []) u
+        → ((ends_with of v ≡ true) × ((but_last v ≡ u) ⊎ (of ∷ [] ≡ u))) ⊎ ((ends_with of v ≡ false) × (v ≡ u))
     go true e k = inl (two e k)
     go false e k = inr (e, one k)
 

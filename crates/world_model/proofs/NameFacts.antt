@@ -27,7 +27,8 @@ names_from_range lane first [] n h = absurd cc
 names_from_range lane first (k ∷ kinds) n h = go (names_from_range lane (first + 1) kinds n) (or_true _ _ h)
   where
     go : (has (names_from lane (first + 1) kinds) n ≡ true → (n.lane ≡ lane) × (first + 1 ≤ n.count) × (n.count < (first + 1) + length kinds))
-        → (same_name n (record { lane = lane; count = first }) ≡ true) ⊎ (has (names_from lane (first + 1) kinds) n ≡ true) → (n.lane ≡ lane) × (first ≤ n.count) × (n.count < first + length (k ∷ kinds))
+        → (same_name n (record { lane = lane; count = first }) ≡ true) ⊎ (has (names_from lane (first + 1) kinds) n ≡ true)
+        → (n.lane ≡ lane) × (first ≤ n.count) × (n.count < first + length (k ∷ kinds))
     go rest (inl same) =
         let parts = and_true _ _ same in
         let lanes : n.lane ≡ lane = eqb-true n.lane lane parts.0 in
@@ -58,16 +59,21 @@ any_more of kept (n ∷ u) h = go (any_more of kept u) (or_true _ _ h)
     first (inl e) = inl (let t : same_name of n ≡ true = subst (λ (m : Name). same_name of m ≡ true) (sym (same_name_true n of e)) (same_name_refl of) in rw t refl)
     first (inr e) = inr (rw e refl)
 
-    go : (list_any (has (of ∷ kept)) u ≡ true → (has u of ≡ true) ⊎ (list_any (has kept) u ≡ true)) → (has (of ∷ kept) n ≡ true) ⊎ (list_any (has (of ∷ kept)) u ≡ true) → (has (n ∷ u) of ≡ true) ⊎ (list_any (has kept) (n ∷ u) ≡ true)
+    go : (list_any (has (of ∷ kept)) u ≡ true → (has u of ≡ true) ⊎ (list_any (has kept) u ≡ true))
+        → (has (of ∷ kept) n ≡ true) ⊎ (list_any (has (of ∷ kept)) u ≡ true) → (has (n ∷ u) of ≡ true) ⊎ (list_any (has kept) (n ∷ u) ≡ true)
     go rest (inl e) = first (or_true _ _ e)
     go rest (inr e) = later (rest e)
 
 -- the unit of a name in the world is a unit, and has the name
-pub found_unit : (units : List (List Name)) (n : Name) → list_any (λ u. has u n) units ≡ true → Among units (unwrap_or (find (λ u. has u n) units) []) × (has (unwrap_or (find (λ u. has u n) units) []) n ≡ true)
+pub found_unit : (units : List (List Name)) (n : Name) → list_any (λ u. has u n) units ≡ true
+    → Among units (unwrap_or (find (λ u. has u n) units) []) × (has (unwrap_or (find (λ u. has u n) units) []) n ≡ true)
 found_unit [] n h = absurd cc
 found_unit (u ∷ units) n h = go (has u n) refl (found_unit units n) h
   where
-    go : (b : Bool) → has u n ≡ b → (list_any (λ v. has v n) units ≡ true → Among units (unwrap_or (find (λ v. has v n) units) []) × (has (unwrap_or (find (λ v. has v n) units) []) n ≡ true)) → (b || list_any (λ v. has v n) units) ≡ true
+    go : (b : Bool) → has u n ≡ b
+        → (list_any (λ v. has v n) units ≡ true
+        → Among units (unwrap_or (find (λ v. has v n) units) []) × (has (unwrap_or (find (λ v. has v n) units) []) n ≡ true))
+        → (b || list_any (λ v. has v n) units) ≡ true
         → Among (u ∷ units) (unwrap_or (cond b (Some u) (find (λ v. has v n) units)) []) × (has (unwrap_or (cond b (Some u) (find (λ v. has v n) units)) []) n ≡ true)
     go true e rest h = (inl refl, e)
     go false e rest h = let r = rest h in (inr r.0, r.1)

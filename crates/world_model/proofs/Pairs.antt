@@ -61,7 +61,8 @@ none_named w n e p k same = go (find (λ p. same_name n p.name) w.pairs) refl e
     go (Some p) f e = absurd cc
 
 -- one more pair
-module _ (z : Sizes) (w : World) (lane : ℕ) (at : Name) (got : Weak) (lawful : IsLawful z) (in_range : lane < z.lanes) (h : ArePairs z w) (draws : DrawsPair z w lane got) (none : pair_of w at ≡ None) where
+module _ (z : Sizes) (w : World) (lane : ℕ) (at : Name) (got : Weak) (lawful : IsLawful z) (in_range : lane < z.lanes) (h : ArePairs z w)
+    (draws : DrawsPair z w lane got) (none : pair_of w at ≡ None) where
   abbrev new : Pair
   new = record { weak = got; name = at; lane = lane }
 
@@ -99,7 +100,10 @@ module _ (z : Sizes) (w : World) (lane : ℕ) (at : Name) (got : Weak) (lawful :
       serials p (inr (inl e)) = subst (λ (q : Pair). (k : ℕ) × (k < drawn more q.lane) × (q.weak.serial ≡ (k + 1) * 16 + q.lane)) e (drawn w lane, last, draws.serial)
         where
           last : drawn w lane < drawn more lane
-          last = let grows : drawn more lane ≡ drawn w lane + cond (lane == lane) 1 0 = drawn_more lane in let own : (lane == lane) ≡ true = eq-eqb lane lane refl in let one : drawn more lane ≡ drawn w lane + 1 = rw own at grows in omega arith
+          last = let grows : drawn more lane ≡ drawn w lane + cond (lane == lane) 1 0 = drawn_more lane in
+              let own : (lane == lane) ≡ true = eq-eqb lane lane refl in
+              let one : drawn more lane ≡ drawn w lane + 1 = rw own at grows in
+              omega arith
       serials p (inr (inr e)) = absurd e
 
       lanes : (p : Pair) → Among w.pairs p ⊎ ((new ≡ p) ⊎ ⊥) → p.lane < z.lanes
@@ -171,7 +175,10 @@ was_pair z s (Lane lane) (act.WeakOf at got) x may k = go (is_some (pair_of s.wo
     new : Pair
     new = record { weak = got; name = at; lane = lane }
 
-    last : Among s.world.pairs x ⊎ ((new ≡ x) ⊎ ⊥) → Among s.world.pairs x ⊎ ((l : ℕ) × (◌≡◌ {A = Entry} (record { pass = Lane lane; act = act.WeakOf at got }) (record { pass = Lane l; act = act.WeakOf x.name x.weak })))
+    last : Among s.world.pairs x ⊎ ((new ≡ x) ⊎ ⊥)
+        → Among s.world.pairs x
+        ⊎ ((l : ℕ)
+        × (◌≡◌ {A = Entry} (record { pass = Lane lane; act = act.WeakOf at got }) (record { pass = Lane l; act = act.WeakOf x.name x.weak })))
     last (inl k) = inl k
     last (inr (inl e)) = inr (lane, ap (λ (y : Pair). record { pass = Lane lane; act = act.WeakOf y.name y.weak }) e)
     last (inr (inr e)) = absurd e
@@ -238,7 +245,9 @@ weak_pointers_holds z lawful history legal = record {
       let q = given.told n other b in
       let same : p.0 ≡ q.0 = all.by_name p.0 q.0 p.1 q.1 (p.2 ∙ sym q.2) in
       sym p.3 ∙ ap (λ (x : Pair). x.weak) same ∙ q.3;
-  own = λ n weak a. let p = given.told n weak a in subst (λ (m : Name). resolved w weak ≡ (if is_given w m then Some m else None)) p.2 (own p.0 weak p.1 p.3 (find (λ q. same_weak weak q.weak) w.pairs) refl);
+  own = λ n weak a. let p = given.told n weak a in
+      subst (λ (m : Name). resolved w weak ≡ (if is_given w m then Some m else None)) p.2
+      (own p.0 weak p.1 p.3 (find (λ q. same_weak weak q.weak) w.pairs) refl);
   never_given = λ weak never. none weak never (find (λ q. same_weak weak q.weak) w.pairs) refl;
 }
   where
@@ -315,7 +324,8 @@ resolve_gives_holds z lawful history lane pair got legal n =
         all : ArePairsGiven history
         all = pairs_given z history ((histories_join.one_more z history (entry (Lane lane) (act.Resolve pair got))).0 legal).0
 
-        one : (q : Pair) → find (λ q. same_weak pair q.weak) (after history).pairs ≡ Some q → (b : Bool) → is_given (after history) q.name ≡ b → (if b then Some q.name else None) ≡ Some n → Gives history pair n
+        one : (q : Pair) → find (λ q. same_weak pair q.weak) (after history).pairs ≡ Some q → (b : Bool) → is_given (after history) q.name ≡ b
+            → (if b then Some q.name else None) ≡ Some n → Gives history pair n
         one q f true is e =
             let found = find_some (λ q. same_weak pair q.weak) (after history).pairs q f in
             let same : q.name ≡ n = cc in
@@ -327,7 +337,8 @@ resolve_gives_holds z lawful history lane pair got legal n =
             }
         one q f false is e = absurd cc
 
-        go : (o : Option Pair) → find (λ q. same_weak pair q.weak) (after history).pairs ≡ o → option_and_then (λ p. if is_given (after history) p.name then Some p.name else None) o ≡ Some n → Gives history pair n
+        go : (o : Option Pair) → find (λ q. same_weak pair q.weak) (after history).pairs ≡ o
+            → option_and_then (λ p. if is_given (after history) p.name then Some p.name else None) o ≡ Some n → Gives history pair n
         go None f e = absurd cc
         go (Some q) f e = one q f (is_given (after history) q.name) refl e
 
@@ -341,7 +352,8 @@ resolve_gives_none_again_holds z lawful before more n pair given out lane got le
     let h = weak_pointers_holds z lawful (before ++ more) parts.0 in
     parts.1.may ∙ h.own n pair (given_later before more n pair given) ∙ not_given parts.0 start out
   where
-    not_given : Legal z (before ++ more) → Legal z before → (in_world (after before) n ≡ false) ⊎ ((after before).garbage n ≡ true) → (if is_given (after (before ++ more)) n then Some n else None) ≡ None
+    not_given : Legal z (before ++ more) → Legal z before → (in_world (after before) n ≡ false) ⊎ ((after before).garbage n ≡ true)
+        → (if is_given (after (before ++ more)) n then Some n else None) ≡ None
     not_given legal start (inl out) =
         let p = (pairs_given z before start).told n pair given in
         let is_made = subst (λ (m : Name). IsMade (after before) m) p.2 (pair_made z before start p.0 p.1) in

@@ -20,7 +20,11 @@ three_made_legal : Legal small three_made
 three_made_legal = (
   record { in_range = lit< tt; frame = refl; may = refl },
   (
-    record { in_range = lit< tt; frame = record { opened = refl; continues = tt; parts = tt }; may = record { some = lit≤ tt; few = lit≤ tt; lawful = refl; next = refl; names = lit≤ tt; room = lit≤ tt } },
+    record {
+      in_range = lit< tt;
+      frame = record { opened = refl; continues = tt; parts = tt };
+      may = record { some = lit≤ tt; few = lit≤ tt; lawful = refl; next = refl; names = lit≤ tt; room = lit≤ tt };
+    },
     (
       record { in_range = lit< tt; frame = record { opened = refl; continues = tt; parts = tt }; may = record { held = refl; was = refl; shaded = λ on marking. absurd cc } },
       tt,
@@ -81,11 +85,30 @@ pub singles_removed_legal : Legal small singles_removed
 singles_removed_legal = legal_join small beginning single_marked (drop 10 singles_removed) single_marked_legal (
   record { in_range = lit< tt; slice = refl; may = tt },
   (
-    record { in_range = lit< tt; slice = refl; may = record { marking = refl; living = refl; grey = refl; targets = λ v unit r. absurd (let wrong : ◌≡◌ {A = Option Name} None (Some r.to) = r.cell in cc) } },
+    record {
+      in_range = lit< tt;
+      slice = refl;
+      may =
+          record {
+            marking = refl;
+            living = refl;
+            grey = refl;
+            targets = λ v unit r. absurd (let wrong : ◌≡◌ {A = Option Name} None (Some r.to) = r.cell in cc);
+          };
+    },
     (
       record { in_range = lit< tt; slice = refl; may = record { scanned = refl; within = lit< tt; stop = (lit< tt, inl refl) } },
       (
-        record { finishes = refl; may = record { marking = refl; closed = refl; black = refl; unreached = λ u unit white. outside_closed (graph marked_singles.world) (is_marked marked_singles.marks) singles_closed u white } },
+        record {
+          finishes = refl;
+          may =
+              record {
+                marking = refl;
+                closed = refl;
+                black = refl;
+                unreached = λ u unit white. outside_closed (graph marked_singles.world) (is_marked marked_singles.marks) singles_closed u white;
+              };
+        },
         (
           record { finishes = refl; may = (record { gathering = refl; within = lit≤ tt; count = refl; looked = lit≤ tt; different = refl; removed = refl; new = refl }, refl, refl) },
           tt,
@@ -101,7 +124,11 @@ pair_held_legal : Legal small pair_held
 pair_held_legal = (
   record { in_range = lit< tt; frame = refl; may = refl },
   (
-    record { in_range = lit< tt; frame = record { opened = refl; continues = tt; parts = tt }; may = record { some = lit≤ tt; few = lit≤ tt; lawful = refl; next = refl; names = lit≤ tt; room = lit≤ tt } },
+    record {
+      in_range = lit< tt;
+      frame = record { opened = refl; continues = tt; parts = tt };
+      may = record { some = lit≤ tt; few = lit≤ tt; lawful = refl; next = refl; names = lit≤ tt; room = lit≤ tt };
+    },
     (
       record { in_range = lit< tt; frame = record { opened = refl; continues = tt; parts = tt }; may = record { number = lit< tt; held = refl; was = refl; shaded = λ marking. absurd cc } },
       (
@@ -132,7 +159,17 @@ pair_marked_legal = legal_join small beginning pair_held (drop 8 pair_marked) pa
     (
       record { in_range = lit< tt; slice = refl; may = tt },
       (
-        record { in_range = lit< tt; slice = refl; may = record { marking = refl; living = refl; grey = refl; targets = λ v unit r. absurd (let wrong : ◌≡◌ {A = Option Name} None (Some r.to) = r.cell in cc) } },
+        record {
+          in_range = lit< tt;
+          slice = refl;
+          may =
+              record {
+                marking = refl;
+                living = refl;
+                grey = refl;
+                targets = λ v unit r. absurd (let wrong : ◌≡◌ {A = Option Name} None (Some r.to) = r.cell in cc);
+              };
+        },
         (
           record { in_range = lit< tt; slice = refl; may = record { scanned = refl; within = lit< tt; stop = (lit< tt, inl refl) } },
           tt,
@@ -170,7 +207,11 @@ valid_held_legal : Legal small valid_held
 valid_held_legal = (
   record { in_range = lit< tt; frame = refl; may = refl },
   (
-    record { in_range = lit< tt; frame = record { opened = refl; continues = tt; parts = tt }; may = record { some = lit≤ tt; few = lit≤ tt; lawful = refl; next = refl; names = lit≤ tt; room = lit≤ tt } },
+    record {
+      in_range = lit< tt;
+      frame = record { opened = refl; continues = tt; parts = tt };
+      may = record { some = lit≤ tt; few = lit≤ tt; lawful = refl; next = refl; names = lit≤ tt; room = lit≤ tt };
+    },
     (
       record { in_range = lit< tt; frame = record { opened = refl; continues = tt; parts = tt }; may = record { number = lit< tt; held = refl; was = refl; shaded = λ marking. absurd cc } },
       (
@@ -211,7 +252,17 @@ garbage_marked_legal = legal_join small beginning garbage_held (drop 7 garbage_m
               (
                 record { in_range = lit< tt; slice = refl; may = tt },
                 (
-                  record { in_range = lit< tt; slice = refl; may = record { marking = refl; living = refl; grey = refl; targets = λ v unit r. absurd (let wrong : ◌≡◌ {A = Option Name} None (Some r.to) = r.cell in cc) } },
+                  record {
+                    in_range = lit< tt;
+                    slice = refl;
+                    may =
+                        record {
+                          marking = refl;
+                          living = refl;
+                          grey = refl;
+                          targets = λ v unit r. absurd (let wrong : ◌≡◌ {A = Option Name} None (Some r.to) = r.cell in cc);
+                        };
+                  },
                   (
                     record { in_range = lit< tt; slice = refl; may = record { scanned = refl; within = lit< tt; stop = (lit< tt, inl refl) } },
                     tt,
@@ -258,9 +309,17 @@ two_units_legal : Legal small two_units
 two_units_legal = (
   record { in_range = lit< tt; frame = refl; may = refl },
   (
-    record { in_range = lit< tt; frame = record { opened = refl; continues = tt; parts = tt }; may = record { some = lit≤ tt; few = lit≤ tt; lawful = refl; next = refl; names = lit≤ tt; room = lit≤ tt } },
+    record {
+      in_range = lit< tt;
+      frame = record { opened = refl; continues = tt; parts = tt };
+      may = record { some = lit≤ tt; few = lit≤ tt; lawful = refl; next = refl; names = lit≤ tt; room = lit≤ tt };
+    },
     (
-      record { in_range = lit< tt; frame = record { opened = refl; continues = tt; parts = tt }; may = record { some = lit≤ tt; few = lit≤ tt; lawful = refl; next = refl; names = lit≤ tt; room = lit≤ tt } },
+      record {
+        in_range = lit< tt;
+        frame = record { opened = refl; continues = tt; parts = tt };
+        may = record { some = lit≤ tt; few = lit≤ tt; lawful = refl; next = refl; names = lit≤ tt; room = lit≤ tt };
+      },
       (
         record { in_range = lit< tt; frame = record { opened = refl; continues = tt; parts = tt }; may = record { held = refl; own = refl; unmarked = λ e. cc; last = refl } },
         tt,
@@ -273,7 +332,11 @@ unit_shared_legal : Legal small unit_shared
 unit_shared_legal = (
   record { in_range = lit< tt; frame = refl; may = refl },
   (
-    record { in_range = lit< tt; frame = record { opened = refl; continues = tt; parts = tt }; may = record { some = lit≤ tt; few = lit≤ tt; lawful = refl; next = refl; names = lit≤ tt; room = lit≤ tt } },
+    record {
+      in_range = lit< tt;
+      frame = record { opened = refl; continues = tt; parts = tt };
+      may = record { some = lit≤ tt; few = lit≤ tt; lawful = refl; next = refl; names = lit≤ tt; room = lit≤ tt };
+    },
     (
       record { in_range = lit< tt; frame = record { opened = refl; continues = tt; parts = tt }; may = record { held = refl; pair = record { left = lit< tt; serial = refl; index = lit< tt } } },
       (

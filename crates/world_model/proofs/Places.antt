@@ -236,7 +236,9 @@ drawn_next z s (Lane lane) (act.WeakOf at got) may l h = go (pair_of s.world at)
         new (lane == l) refl all one
       where
         new : (b : Bool) → (lane == l) ≡ b
-            → count_by (λ (p : Pair). p.lane == l) (s.world.pairs ++ record { weak = got; name = at; lane = lane } ∷ []) ≡ count_by (λ (p : Pair). p.lane == l) s.world.pairs + count_by (λ (p : Pair). p.lane == l) (record { weak = got; name = at; lane = lane } ∷ [])
+            → count_by (λ (p : Pair). p.lane == l) (s.world.pairs ++ record { weak = got; name = at; lane = lane } ∷ [])
+            ≡ count_by (λ (p : Pair). p.lane == l) s.world.pairs
+            + count_by (λ (p : Pair). p.lane == l) (record { weak = got; name = at; lane = lane } ∷ [])
             → count_by (λ (p : Pair). p.lane == l) (record { weak = got; name = at; lane = lane } ∷ []) ≡ cond b 1 0 + 0
             → count_by (λ (p : Pair). p.lane == l) (s.world.pairs ++ record { weak = got; name = at; lane = lane } ∷ []) ≤ z.serials
         new true e all one = let left : drawn s.world l < z.serials = subst (λ (i : ℕ). drawn s.world i < z.serials) (eqb-true lane l e) draws.left in omega arith
@@ -291,7 +293,8 @@ census_adds_up_holds z history legal l = let quota = (quotas_hold_holds z histor
 
 -- ---- units
 
-some_units : (z : Sizes) (s : State) (p : Pass) (a : Act) → MayBy z s p a → ((u : List Name) → Among s.world.units u → u ≢ []) → (u : List Name) → Among (next_world s.marks s.world p a).units u → u ≢ []
+some_units : (z : Sizes) (s : State) (p : Pass) (a : Act) → MayBy z s p a → ((u : List Name) → Among s.world.units u → u ≢ []) → (u : List Name)
+    → Among (next_world s.marks s.world p a).units u → u ≢ []
 some_units z s (Lane lane) (act.Make kinds first) may h u k = go (among_append s.world.units (names_from lane first kinds ∷ []) u k)
   where
     some : (kinds : List Kind) → 1 ≤ length kinds → names_from lane first kinds ≢ []
@@ -318,7 +321,8 @@ some_units z s p (act.BeginGc begin.Started) may h u k = h u k
 some_units z s p _ may h u k = h u k
 
 -- outside marking each unit is marked
-all_marked : (z : Sizes) (s : State) (p : Pass) (a : Act) → MayBy z s p a → ((u : List Name) → Among s.world.units u → u ≢ []) → (s.world.phase ≢ Marking → (u : List Name) → Among s.world.units u → is_marked s.marks u ≡ true)
+all_marked : (z : Sizes) (s : State) (p : Pass) (a : Act) → MayBy z s p a → ((u : List Name) → Among s.world.units u → u ≢ [])
+    → (s.world.phase ≢ Marking → (u : List Name) → Among s.world.units u → is_marked s.marks u ≡ true)
     → (next_world s.marks s.world p a).phase ≢ Marking → (u : List Name) → Among (next_world s.marks s.world p a).units u → is_marked (next_by s (next_world s.marks s.world p a) p a).marks u ≡ true
 all_marked z s p (act.Make kinds first) may some h other u k = go (among_append s.world.units (new ∷ []) u k)
   where
@@ -329,7 +333,9 @@ all_marked z s p (act.Make kinds first) may some h other u k = go (among_append 
     own n e = list_any-append (same_name n) new s.marks.fresh ∙ or_left _ _ e
 
     go : Among s.world.units u ⊎ ((new ≡ u) ⊎ ⊥) → list_any (λ n. has s.marks.kept n || has (new ++ s.marks.fresh) n) u ≡ true
-    go (inl k) = marked_more s.marks.kept s.marks.kept s.marks.fresh (new ++ s.marks.fresh) u (λ n e. e) (λ n e. list_any-append (same_name n) new s.marks.fresh ∙ or_right (has new n) _ e) (h other u k)
+    go (inl k) =
+        marked_more s.marks.kept s.marks.kept s.marks.fresh (new ++ s.marks.fresh) u (λ n e. e)
+        (λ n e. list_any-append (same_name n) new s.marks.fresh ∙ or_right (has new n) _ e) (h other u k)
     go (inr (inl e)) = in_new u e (some_units z s p (act.Make kinds first) may some u k)
       where
         in_new : (u : List Name) → new ≡ u → u ≢ [] → list_any (λ n. has s.marks.kept n || has (new ++ s.marks.fresh) n) u ≡ true

@@ -35,7 +35,8 @@ pub record IsPolled (w : World) (n : Name) (count : ℕ) : Type 0 where
   pub removed : is_removed w n ≡ true → polls_of w n ≡ min count 65535
 
 -- who may be asked is begun
-asked_begun : (z : Sizes) (s : State) (p : Pass) (of : Name) (poll : ℕ) (answer : Bool) → MayBy z s p (act.Asked of poll answer) → (is_at s.world Begun of ≡ true) × (poll ≡ min (polls_of s.world of + 1) 65535)
+asked_begun : (z : Sizes) (s : State) (p : Pass) (of : Name) (poll : ℕ) (answer : Bool) → MayBy z s p (act.Asked of poll answer)
+    → (is_at s.world Begun of ≡ true) × (poll ≡ min (polls_of s.world of + 1) 65535)
 asked_begun z s Collector of poll answer may = ((find_some (is_at s.world Begun) _ of may.may.next).1, may.may.number)
 asked_begun z s (Lane lane) of poll answer may = absurd may.may
 asked_begun z s (Marker marker) of poll answer may = absurd may.may
@@ -48,14 +49,16 @@ no_polls : (n : Name) (ns : List Name) → option_map_or {T = Removal} (λ r. r.
 no_polls n [] = refl
 no_polls n (m ∷ ns) = go (same_name n m) (no_polls n ns)
   where
-    go : (b : Bool) → option_map_or {T = Removal} (λ r. r.polls) (find (named n) (map new ns)) 0 ≡ 0 → option_map_or {T = Removal} (λ r. r.polls) (cond b (Some (new m)) (find (named n) (map new ns))) 0 ≡ 0
+    go : (b : Bool) → option_map_or {T = Removal} (λ r. r.polls) (find (named n) (map new ns)) 0 ≡ 0
+        → option_map_or {T = Removal} (λ r. r.polls) (cond b (Some (new m)) (find (named n) (map new ns))) 0 ≡ 0
     go true rest = refl
     go false rest = rest
 
 -- what stays removed keeps its polls, but for the object that is asked
 polls_stay : (z : Sizes) (s : State) (p : Pass) (a : Act) (n : Name) → MayBy z s p a → IsSound s → asks n a ≡ false → is_removed s.world n ≡ true → has (freed_by s.world a) n ≡ false
     → polls_of (next_world s.marks s.world p a) n ≡ polls_of s.world n
-polls_stay z s p (act.CommitGc commit.Done) n may known other is kept = absurd (both_ways (is_removed s.world n) (ap (list_any (named n)) (known.destroying.unmarked (commits_may z s p may).marking)) is)
+polls_stay z s p (act.CommitGc commit.Done) n may known other is kept =
+    absurd (both_ways (is_removed s.world n) (ap (list_any (named n)) (known.destroying.unmarked (commits_may z s p may).marking)) is)
 polls_stay z s p (act.Begun of) n may known other is kept = polls_of-at_stage s.world of Begun n
 polls_stay z s p (act.Finished of) n may known other is kept = polls_of-at_stage s.world of Finished n
 polls_stay z s p (act.Asked of poll answer) n may known other is kept = polls_of-polled_other s.world of poll n (flip_name n of false other)
@@ -96,7 +99,8 @@ polled_in z history legal n = by_entries z (λ xs. IsPolled (after xs) n (times_
                 let gone : is_removed s.world of ≡ true = in_removals_at s.world Begun of begun.0 in
                 let same : of ≡ n = sym (same_name_true n of is) in
                 let number = begun.1 in
-                let was : polls_of s.world of ≡ min (times_asked xs n) 65535 = subst (λ (m : Name). is_removed s.world m ≡ true → polls_of s.world m ≡ min (times_asked xs n) 65535) (sym same) h.removed gone in
+                let was : polls_of s.world of ≡ min (times_asked xs n) 65535 =
+                subst (λ (m : Name). is_removed s.world m ≡ true → polls_of s.world m ≡ min (times_asked xs n) 65535) (sym same) h.removed gone in
                 let is_now = polls_of-polled_same s.world of poll in
                 let polls : polls_of (next_world s.marks s.world p (act.Asked of poll answer)) of ≡ poll = is_now ∙ (rw gone refl) in
                 subst (λ (m : Name). IsPolled (next_world s.marks s.world p (act.Asked of poll answer)) m (times_asked xs n + 1)) same record {
@@ -115,7 +119,9 @@ polled_in z history legal n = by_entries z (λ xs. IsPolled (after xs) n (times_
             lived (inl made) = h.unmade (is_new z s e.pass e.act n may made).0
             lived (inr old) = h.living old.0
 
-            still : ((is_done e.act ≡ true) × (in_world s.world n ≡ true) × (is_marked s.marks (unit_of s.world n) ≡ false)) ⊎ ((is_removed s.world n ≡ true) × (has (freed_by s.world e.act) n ≡ false)) → polls_of (after (xs ++ e ∷ [])) n ≡ min (times_asked xs n) 65535
+            still : ((is_done e.act ≡ true) × (in_world s.world n ≡ true) × (is_marked s.marks (unit_of s.world n) ≡ false))
+                ⊎ ((is_removed s.world n ≡ true) × (has (freed_by s.world e.act) n ≡ false))
+                → polls_of (after (xs ++ e ∷ [])) n ≡ min (times_asked xs n) 65535
             still (inl new) = ap (λ (w : World). polls_of w n) now ∙ none e.act new.0 ∙ (let zero = h.living new.1 in omega arith)
               where
                 none : (a : Act) → is_done a ≡ true → polls_of (next_world s.marks s.world e.pass a) n ≡ 0
@@ -149,7 +155,15 @@ finished_behind_poll_holds z history of legal =
     step xs e legal may h n agreed = go e.pass e.act refl (ap (λ (s : State). s.collector.agreed) (sym (one_more xs e)) ∙ agreed)
       where
         mine : (a : Act) → e ≡ entry Collector a → (own_collecting (state_of xs).collector a).agreed ≡ Some n → (poll : ℕ) × EndsWith (xs ++ e ∷ []) (act.Asked n poll true)
-        mine (act.Asked m poll true) is k = (poll, record { front = xs; others = []; are = ap (λ (x : Entry). xs ++ x ∷ []) (is ∙ ap (λ (o : Name). entry Collector (act.Asked o poll true)) cc); other = tt })
+        mine (act.Asked m poll true) is k = (
+          poll,
+          record {
+            front = xs;
+            others = [];
+            are = ap (λ (x : Entry). xs ++ x ∷ []) (is ∙ ap (λ (o : Name). entry Collector (act.Asked o poll true)) cc);
+            other = tt;
+          },
+        )
         mine (act.Asked m poll false) is k = absurd cc
         mine (act.BeginGc begin.Started) is k = absurd cc
         mine _ is k = absurd cc

@@ -24,7 +24,8 @@ use Rattle.world_model.proofs.Solo.{state_after, legal_call, notes_keep, slice_o
 -- ---- the world while a collection marks
 
 -- an act of marking leaves the world as it is but for the slices that are open
-marking_world : (s : State) (p : Pass) (a : Act) → is_marking a ≡ true → (next s (record { pass = p; act = a })).world ≡ record s.world { opened = (next s (record { pass = p; act = a })).world.opened }
+marking_world : (s : State) (p : Pass) (a : Act) → is_marking a ≡ true
+    → (next s (record { pass = p; act = a })).world ≡ record s.world { opened = (next s (record { pass = p; act = a })).world.opened }
 marking_world s p act.SliceOpen h = refl
 marking_world s p (act.Kept of) h = refl
 marking_world s p (act.Scanned of) h = refl
@@ -78,7 +79,8 @@ fewer of scanned (u ∷ units) = go (list_any (has scanned) u) refl (list_any (h
     go false e false f rest = omega arith
 
 -- one that was in an unscanned unit leaves fewer
-strictly_fewer : (of : Name) (scanned : List Name) (units : List (List Name)) (u : List Name) → Among units u → has u of ≡ true → list_any (has scanned) u ≡ false → unscanned (of ∷ scanned) units < unscanned scanned units
+strictly_fewer : (of : Name) (scanned : List Name) (units : List (List Name)) (u : List Name) → Among units u → has u of ≡ true
+    → list_any (has scanned) u ≡ false → unscanned (of ∷ scanned) units < unscanned scanned units
 unfolding unscanned
 strictly_fewer of scanned [] u among own not_yet = absurd among
 strictly_fewer of scanned (v ∷ units) u (inl e) own not_yet =
@@ -105,7 +107,11 @@ grey_unscanned : (m : Marks) (u : List Name) → is_grey m u ≡ true → list_a
 grey_unscanned m u h = go (list_any (has m.scanned) u) refl
   where
     go : (b : Bool) → list_any (has m.scanned) u ≡ b → list_any (has m.scanned) u ≡ false
-    go true e = absurd (let part : not (list_any (has m.scanned) u) ≡ true = (and_true (list_any (has m.kept) u) (not (list_any (has m.scanned) u)) h).1 in let wrong : not (list_any (has m.scanned) u) ≡ false = rw e refl in cc)
+    go true e =
+        absurd
+        (let part : not (list_any (has m.scanned) u) ≡ true = (and_true (list_any (has m.kept) u) (not (list_any (has m.scanned) u)) h).1 in
+        let wrong : not (list_any (has m.scanned) u) ≡ false = rw e refl in
+        cc)
     go false e = e
 
 -- what one note of a slice leaves to scan
@@ -128,8 +134,11 @@ notes_scan z s marker [] all legal = (omega arith, inl refl)
 notes_scan z s marker (a ∷ notes) all legal =
     let both = and_true _ _ all in
     let one = note_scans z s marker a both.0 legal.0 in
-    let rest = notes_scan z (next s (record { pass = Marker marker; act = a })) marker notes both.1 legal.1 in
-    (omega (arith, one.0, rest.0), joined s (next s (record { pass = Marker marker; act = a })) (run (next s (record { pass = Marker marker; act = a })) (by (Marker marker) notes)) one.0 rest.0 one.1 rest.1)
+    let rest = notes_scan z (next s (record { pass = Marker marker; act = a })) marker notes both.1 legal.1 in (
+      omega (arith, one.0, rest.0),
+      joined s (next s (record { pass = Marker marker; act = a }))
+          (run (next s (record { pass = Marker marker; act = a })) (by (Marker marker) notes)) one.0 rest.0 one.1 rest.1,
+    )
   where
     joined : (s t u : State) → left_to_scan t ≤ left_to_scan s → left_to_scan u ≤ left_to_scan t
         → (((t.slices marker).scanned ≡ (s.slices marker).scanned) ⊎ (left_to_scan t < left_to_scan s))
@@ -199,7 +208,8 @@ grey_moments Marking m moments units = refl
 grey_moments Gathering m moments units = refl
 
 -- a slice that is idle leaves nothing grey
-pub idle_black : (z : Sizes) (old new : List Entry) (marker budget : ℕ) (reply : Marked) → Appends z old new (Marker marker) (act.Slice budget reply) → reply.stop ≡ stop.Idle → grey_units (state_of new) ≡ []
+pub idle_black : (z : Sizes) (old new : List Entry) (marker budget : ℕ) (reply : Marked) → Appends z old new (Marker marker) (act.Slice budget reply)
+    → reply.stop ≡ stop.Idle → grey_units (state_of new) ≡ []
 idle_black z old new marker budget reply h idle =
     let opening : List Act = act.SliceOpen ∷ h.call.0.notes in
     let closing : Entry = record { pass = Marker marker; act = act.Slice budget reply } in

@@ -61,7 +61,8 @@ carry g opened opened' fresh kept moments slices own w keeps same in_slices h = 
 }
 
 -- the moments of a slice behind a change of one slice
-chosen : (g : Graph) (slices : ℕ → Slicing) (k m : ℕ) (new : Slicing) → (m ≡ k → SameGraphs g new.moments) → ((m == k) ≡ false → SameGraphs g (slices m).moments) → SameGraphs g (set_at slices k new m).moments
+chosen : (g : Graph) (slices : ℕ → Slicing) (k m : ℕ) (new : Slicing) → (m ≡ k → SameGraphs g new.moments)
+    → ((m == k) ≡ false → SameGraphs g (slices m).moments) → SameGraphs g (set_at slices k new m).moments
 chosen g slices k m new same other = go (m == k) refl
   where
     go : (b : Bool) → (m == k) ≡ b → SameGraphs g (cond b new (slices m)).moments
@@ -86,7 +87,8 @@ pays_quiet w n _ quiet h = h
 
 -- an entry of a slice other than its opening leaves it open, with the moments that it had
 kept_slices : (g : Graph) (opened : List Pass) (slices : ℕ → Slicing) (k : ℕ) (new : Slicing) → new.moments ≡ (slices k).moments
-    → ((m : ℕ) → list_any (same_pass (Marker m)) opened ≡ true → SameGraphs g (slices m).moments) → (m : ℕ) → list_any (same_pass (Marker m)) opened ≡ true → SameGraphs g (set_at slices k new m).moments
+    → ((m : ℕ) → list_any (same_pass (Marker m)) opened ≡ true → SameGraphs g (slices m).moments) → (m : ℕ)
+    → list_any (same_pass (Marker m)) opened ≡ true → SameGraphs g (set_at slices k new m).moments
 kept_slices g opened slices k new same h m is = chosen g slices k m new (λ e. subst (SameGraphs g) (sym same) (subst (λ (i : ℕ). SameGraphs g (slices i).moments) e (h m is))) (λ f. h m is)
 
 pub not_open : (w : World) (p : Pass) → list_any (same_pass p) w.opened ≡ true → w.opened ≡ [] → ⊥
@@ -119,13 +121,26 @@ steady_lane z s lane a may quiet apart h =
 steady_marker : (z : Sizes) (s : State) (marker : ℕ) (a : Act) → MayBy z s (Marker marker) a → is_quiet a ≡ true → AreApart s.world.kinds s.world.units
     → IsSteady (graph s.world) s.world.opened s.marks.fresh s.marks.kept s.marks.moments s.slices → Outcome (next_by s (next_world s.marks s.world (Marker marker) a) (Marker marker) a)
 steady_marker z s marker act.SliceOpen may quiet apart h =
-    inr (inr (carry (graph s.world) s.world.opened _ s.marks.fresh s.marks.kept s.marks.moments s.slices (own_slices s.collector.shading (next_world s.marks s.world (Marker marker) act.SliceOpen) s.slices (Marker marker) act.SliceOpen) (next_world s.marks s.world (Marker marker) act.SliceOpen) (same_pass (Marker marker) Collector && is_kept act.SliceOpen) refl
+    inr
+    (inr
+    (carry (graph s.world) s.world.opened _ s.marks.fresh s.marks.kept s.marks.moments s.slices
+    (own_slices s.collector.shading (next_world s.marks s.world (Marker marker) act.SliceOpen) s.slices (Marker marker) act.SliceOpen)
+    (next_world s.marks s.world (Marker marker) act.SliceOpen) (same_pass (Marker marker) Collector && is_kept act.SliceOpen) refl
     (λ m is. chosen (graph s.world) s.slices marker m _ (λ e. tt) (λ f. h.in_slices m (rw f at is))) h))
 steady_marker z s marker (act.Slice budget reply) may quiet apart h =
-    inr (inr (carry (graph s.world) s.world.opened _ s.marks.fresh s.marks.kept s.marks.moments s.slices (own_slices s.collector.shading (next_world s.marks s.world (Marker marker) (act.Slice budget reply)) s.slices (Marker marker) (act.Slice budget reply)) (next_world s.marks s.world (Marker marker) (act.Slice budget reply)) (same_pass (Marker marker) Collector && is_kept (act.Slice budget reply)) refl
+    inr
+    (inr
+    (carry (graph s.world) s.world.opened _ s.marks.fresh s.marks.kept s.marks.moments s.slices
+    (own_slices s.collector.shading (next_world s.marks s.world (Marker marker) (act.Slice budget reply)) s.slices (Marker marker)
+    (act.Slice budget reply)) (next_world s.marks s.world (Marker marker) (act.Slice budget reply))
+    (same_pass (Marker marker) Collector && is_kept (act.Slice budget reply)) refl
     (λ m is. kept_slices (graph s.world) s.world.opened s.slices marker (s.slices marker) refl h.in_slices m (any_filter _ _ s.world.opened is)) h))
 steady_marker z s marker (act.Scanned of) may quiet apart h =
-    inr (inr (carry (graph s.world) s.world.opened _ s.marks.fresh s.marks.kept s.marks.moments s.slices (own_slices s.collector.shading (next_world s.marks s.world (Marker marker) (act.Scanned of)) s.slices (Marker marker) (act.Scanned of)) (next_world s.marks s.world (Marker marker) (act.Scanned of)) (same_pass (Marker marker) Collector && is_kept (act.Scanned of)) refl
+    inr
+    (inr
+    (carry (graph s.world) s.world.opened _ s.marks.fresh s.marks.kept s.marks.moments s.slices
+    (own_slices s.collector.shading (next_world s.marks s.world (Marker marker) (act.Scanned of)) s.slices (Marker marker) (act.Scanned of))
+    (next_world s.marks s.world (Marker marker) (act.Scanned of)) (same_pass (Marker marker) Collector && is_kept (act.Scanned of)) refl
     (λ m is. kept_slices (graph s.world) s.world.opened s.slices marker _ refl h.in_slices m is) h))
 steady_marker z s marker (act.Kept of) may quiet apart h = inr (inr (record {
   none_made = h.none_made;
@@ -142,7 +157,8 @@ steady_marker z s marker (act.CommitGc reply) may quiet apart h = absurd may.may
 steady_marker z s marker _ may quiet apart h = absurd may.may
 
 -- a collection that has just started is steady
-fresh_start : (z : Sizes) (s : State) → MayBy z s Collector (act.BeginGc begin.Started) → Outcome (next_by s (next_world s.marks s.world Collector (act.BeginGc begin.Started)) Collector (act.BeginGc begin.Started))
+fresh_start : (z : Sizes) (s : State) → MayBy z s Collector (act.BeginGc begin.Started)
+    → Outcome (next_by s (next_world s.marks s.world Collector (act.BeginGc begin.Started)) Collector (act.BeginGc begin.Started))
 fresh_start z s may = inr (inr (record {
   none_made = refl;
   graphs = (refl, tt);
@@ -172,7 +188,11 @@ steady_next z s Collector (act.Make kinds first) may quiet apart h = absurd cc
 steady_next z s Collector (act.WriteRef at slot to old) may quiet apart h = absurd cc
 steady_next z s Collector (act.Root at on old) may quiet apart h = absurd cc
 steady_next z s Collector (act.SetStrong number to old) may quiet apart h = absurd cc
-steady_next z s Collector a may quiet apart h = inr (inr (carry (graph s.world) s.world.opened s.world.opened s.marks.fresh s.marks.kept s.marks.moments s.slices s.slices (next_world s.marks s.world Collector a) _ refl h.in_slices h))
+steady_next z s Collector a may quiet apart h =
+    inr
+    (inr
+    (carry (graph s.world) s.world.opened s.world.opened s.marks.fresh s.marks.kept s.marks.moments s.slices s.slices
+    (next_world s.marks s.world Collector a) _ refl h.in_slices h))
 steady_next z s (Lane lane) a may quiet apart h = steady_lane z s lane a may quiet apart h
 steady_next z s (Marker marker) a may quiet apart h = steady_marker z s marker a may quiet apart h
 
@@ -193,7 +213,8 @@ no_lane lane m (Marker j) e = absurd cc
 no_lane lane m Collector e = absurd cc
 
 -- the stuck lane itself makes no quiet entry
-own_stuck : (z : Sizes) (s : State) (lane : ℕ) (n : Name) (a : Act) → MayBy z s (Lane lane) a → is_quiet a ≡ true → list_any (same_pass (Lane lane)) s.world.opened ≡ true → (s.frames lane).owed ≡ Some n → ⊥
+own_stuck : (z : Sizes) (s : State) (lane : ℕ) (n : Name) (a : Act) → MayBy z s (Lane lane) a → is_quiet a ≡ true
+    → list_any (same_pass (Lane lane)) s.world.opened ≡ true → (s.frames lane).owed ≡ Some n → ⊥
 own_stuck z s lane n (act.FrameOpen phase) may quiet is owed = let wrong : list_any (same_pass (Lane lane)) s.world.opened ≡ false = may.frame in cc
 own_stuck z s lane n a may quiet is owed = pays_quiet s.world n a quiet (rw owed at may.frame.continues)
 
@@ -221,7 +242,9 @@ stuck_next z s (Lane l) a may quiet stuck = go (stuck.0 == l) refl
     go : (b : Bool) → (stuck.0 == l) ≡ b → Outcome (next_by s (next_world s.marks s.world (Lane l) a) (Lane l) a)
     go true e =
         let same : stuck.0 ≡ l = eqb-true stuck.0 l e in
-        absurd (own_stuck z s l stuck.1 a may quiet (subst (λ (i : ℕ). list_any (same_pass (Lane i)) s.world.opened ≡ true) same stuck.2) (subst (λ (i : ℕ). (s.frames i).owed ≡ Some stuck.1) same stuck.3))
+        absurd
+        (own_stuck z s l stuck.1 a may quiet (subst (λ (i : ℕ). list_any (same_pass (Lane i)) s.world.opened ≡ true) same stuck.2)
+        (subst (λ (i : ℕ). (s.frames i).owed ≡ Some stuck.1) same stuck.3))
     go false e = inr (inl (stuck.0, stuck.1, still_open s (Lane l) a stuck.0 (λ x. other_lane stuck.0 l x e) stuck.2, rw e stuck.3))
 
 -- ---- from a state in which no collection marks
@@ -246,7 +269,8 @@ outcome_next z s e may quiet apart (inl h) = idle_next z s e.pass e.act may h
 outcome_next z s e may quiet apart (inr (inl h)) = stuck_next z s e.pass e.act may quiet h
 outcome_next z s e may quiet apart (inr (inr h)) = steady_next z s e.pass e.act may quiet apart h
 
-outcome_run : (z : Sizes) (s : State) (entries : List Entry) → LegalFrom z s entries → AllByRecursion (λ e. IsTrue (is_quiet e.act)) entries → AreApart s.world.kinds s.world.units → Outcome s → Outcome (run s entries)
+outcome_run : (z : Sizes) (s : State) (entries : List Entry) → LegalFrom z s entries → AllByRecursion (λ e. IsTrue (is_quiet e.act)) entries
+    → AreApart s.world.kinds s.world.units → Outcome s → Outcome (run s entries)
 outcome_run z s [] legal quiet apart h = h
 outcome_run z s (e ∷ entries) legal quiet apart h =
     outcome_run z (next s e) entries legal.1 quiet.1 (next_apart z s e.pass e.act legal.0 apart) (outcome_next z s e legal.0 quiet.0 apart h)
@@ -256,7 +280,8 @@ marked_kept : (kept u : List Name) → list_any (λ n. has kept n || false) u �
 marked_kept kept [] h = h
 marked_kept kept (n ∷ u) h = go (has kept n) (marked_kept kept u) h
   where
-    go : (b : Bool) → (list_any (λ m. has kept m || false) u ≡ true → list_any (has kept) u ≡ true) → ((b || false) || list_any (λ m. has kept m || false) u) ≡ true → (b || list_any (has kept) u) ≡ true
+    go : (b : Bool) → (list_any (λ m. has kept m || false) u ≡ true → list_any (has kept) u ≡ true)
+        → ((b || false) || list_any (λ m. has kept m || false) u) ≡ true → (b || list_any (has kept) u) ≡ true
     go true rest e = refl
     go false rest e = rest e
 

@@ -28,7 +28,9 @@ count_cons p x xs = sum_by-cons (λ y. cond (p y) 1 0) x xs
 
 count_agree : {A : Type 0} (xs : List A) (p q : A → Bool) → AgreeOn xs p q → count_by p xs ≡ count_by q xs
 count_agree [] p q h = refl
-count_agree (x ∷ xs) p q h = count_cons p x xs ∙ ap (λ (b : Bool). cond b 1 0 + count_by p xs) (h x (inl refl)) ∙ ap (λ (n : ℕ). cond (q x) 1 0 + n) (count_agree xs p q (λ y a. h y (inr a))) ∙ sym (count_cons q x xs)
+count_agree (x ∷ xs) p q h =
+    count_cons p x xs ∙ ap (λ (b : Bool). cond b 1 0 + count_by p xs) (h x (inl refl))
+    ∙ ap (λ (n : ℕ). cond (q x) 1 0 + n) (count_agree xs p q (λ y a. h y (inr a))) ∙ sym (count_cons q x xs)
 
 agree_more : {A : Type 0} (x : A) (xs : List A) (p q : A → Bool) → p x ≡ q x → AgreeOn xs p q → AgreeOn (x ∷ xs) p q
 agree_more x xs p q e h y (inl same) = subst (λ (z : _). p z ≡ q z) same e
@@ -78,17 +80,22 @@ settles root edge xs (suc k) = go (settles root edge xs k)
     go (inl settled) = inl (settled_on root edge xs k settled)
     go (inr many) = more many (grows xs (within_steps root edge xs k) (within_steps root edge xs (suc k)) (λ x e. step_more root edge xs k x e))
       where
-        more : k ≤ count_by (within_steps root edge xs k) xs → AgreeOn xs (within_steps root edge xs k) (within_steps root edge xs (suc k)) ⊎ (count_by (within_steps root edge xs k) xs + 1 ≤ count_by (within_steps root edge xs (suc k)) xs)
+        more : k ≤ count_by (within_steps root edge xs k) xs
+            → AgreeOn xs (within_steps root edge xs k) (within_steps root edge xs (suc k))
+            ⊎ (count_by (within_steps root edge xs k) xs + 1 ≤ count_by (within_steps root edge xs (suc k)) xs)
             → IsSettled root edge xs (suc k) ⊎ (suc k ≤ count_by (within_steps root edge xs (suc k)) xs)
         more many (inl settled) = inl (settled_on root edge xs k settled)
         more many (inr up) = inr (omega (arith, many, up))
 
 -- as many steps as there are elements reach all that any steps reach
 pub all_settled : {A : Type 0} (root : A → Bool) (edge : A → A → Bool) (xs : List A) → IsSettled root edge xs (length xs)
-all_settled root edge xs = go (settles root edge xs (length xs)) (grows xs (within_steps root edge xs (length xs)) (within_steps root edge xs (suc (length xs))) (λ x e. step_more root edge xs (length xs) x e))
+all_settled root edge xs =
+    go (settles root edge xs (length xs))
+    (grows xs (within_steps root edge xs (length xs)) (within_steps root edge xs (suc (length xs))) (λ x e. step_more root edge xs (length xs) x e))
   where
     go : IsSettled root edge xs (length xs) ⊎ (length xs ≤ count_by (within_steps root edge xs (length xs)) xs)
-        → AgreeOn xs (within_steps root edge xs (length xs)) (within_steps root edge xs (suc (length xs))) ⊎ (count_by (within_steps root edge xs (length xs)) xs + 1 ≤ count_by (within_steps root edge xs (suc (length xs))) xs)
+        → AgreeOn xs (within_steps root edge xs (length xs)) (within_steps root edge xs (suc (length xs)))
+        ⊎ (count_by (within_steps root edge xs (length xs)) xs + 1 ≤ count_by (within_steps root edge xs (suc (length xs))) xs)
         → IsSettled root edge xs (length xs)
     go (inl settled) grown = settled
     go (inr many) (inl settled) = settled
@@ -99,7 +106,8 @@ unfolding within_steps
 roots_within root edge xs zero x e = e
 roots_within root edge xs (suc k) x e = let on = roots_within root edge xs k x e in rw on refl
 
-pub edge_within : {A : Type 0} (root : A → Bool) (edge : A → A → Bool) (xs : List A) (y x : A) → Among xs y → Among xs x → within_steps root edge xs (length xs) y ≡ true → edge y x ≡ true → within_steps root edge xs (length xs) x ≡ true
+pub edge_within : {A : Type 0} (root : A → Bool) (edge : A → A → Bool) (xs : List A) (y x : A) → Among xs y → Among xs x
+    → within_steps root edge xs (length xs) y ≡ true → edge y x ≡ true → within_steps root edge xs (length xs) x ≡ true
 unfolding within_steps
 edge_within root edge xs y x ay ax e step =
     let both : (within_steps root edge xs (length xs) y && edge y x) ≡ true = rw (e, step) refl in
@@ -150,14 +158,19 @@ steps_walk slots root g (suc k) u tells unit e = go (λ v. steps_walk slots root
         (reach_by_walks_holds g).refers v.0 u unit (rest v.0 (among_contains g.units v.0 v.1) both.0) (told_refers slots g v.0 u both.1)
 
 -- a walk from a unit that is reached by steps ends in one
-walk_steps : (slots : ℕ) (root : List Name → Bool) (g : Graph) (u : List Name) (rest : List (List Name)) (v : List Name) → HasSlots slots g → IsUnit g u → is_reached slots root g u ≡ true → Walk g u rest v → is_reached slots root g v ≡ true
+walk_steps : (slots : ℕ) (root : List Name → Bool) (g : Graph) (u : List Name) (rest : List (List Name)) (v : List Name) → HasSlots slots g
+    → IsUnit g u → is_reached slots root g u ≡ true → Walk g u rest v → is_reached slots root g v ≡ true
 walk_steps slots root g u [] v few unit e walk = subst (λ (x : List Name). is_reached slots root g x ≡ true) walk e
 walk_steps slots root g u (next ∷ rest) v few unit e walk =
-    let on : is_reached slots root g next ≡ true = edge_within root (refers_to slots g) g.units u next (contains_among g.units u unit) (contains_among g.units next walk.0) e (refers_told slots g u next few walk.1) in
+    let on : is_reached slots root g next ≡ true =
+    edge_within root (refers_to slots g) g.units u next (contains_among g.units u unit) (contains_among g.units next walk.0) e
+    (refers_told slots g u next few walk.1) in
     walk_steps slots root g next rest v few walk.0 on walk.2
 
 pub reached_told : (slots : ℕ) (root : List Name → Bool) (g : Graph) (u : List Name) → HasSlots slots g → TellsRoots g root → IsReached g u → is_reached slots root g u ≡ true
-reached_told slots root g u few tells r = walk_steps slots root g r.root r.rest u few r.unit (roots_within root (refers_to slots g) g.units (length g.units) r.root (tells.whole r.root r.is_root)) r.walk
+reached_told slots root g u few tells r =
+    walk_steps slots root g r.root r.rest u few r.unit
+    (roots_within root (refers_to slots g) g.units (length g.units) r.root (tells.whole r.root r.is_root)) r.walk
 
 pub told_reached : (slots : ℕ) (root : List Name → Bool) (g : Graph) (u : List Name) → TellsRoots g root → IsUnit g u → is_reached slots root g u ≡ true → IsReached g u
 told_reached slots root g u tells unit e = steps_walk slots root g (length g.units) u tells unit e

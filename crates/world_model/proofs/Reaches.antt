@@ -17,7 +17,15 @@ walk_within g set closed u (next ∷ rest) v start walk = walk_within g set clos
 pub reach_by_walks_holds : (g : Graph) → ReachByWalks g
 reach_by_walks_holds g = record {
   roots = λ u unit is_root. record { root = u; rest = []; unit = unit; is_root = is_root; walk = refl };
-  refers = λ u v unit reached refers. record { root = reached.root; rest = reached.rest ++ v ∷ []; unit = reached.unit; is_root = reached.is_root; walk = walk_on g reached.root reached.rest u v reached.walk unit refers };
+  refers =
+      λ u v unit reached refers.
+      record {
+        root = reached.root;
+        rest = reached.rest ++ v ∷ [];
+        unit = reached.unit;
+        is_root = reached.is_root;
+        walk = walk_on g reached.root reached.rest u v reached.walk unit refers;
+      };
   least = λ set closed u reached. walk_within g set closed reached.root reached.rest u (closed.roots reached.root reached.unit reached.is_root) reached.walk;
 }
 
@@ -35,10 +43,12 @@ pub outside_closed : (g : Graph) (set : List Name → Bool) → IsClosed g set �
 outside_closed g set closed u out reached = let within : set u ≡ true = (reach_by_walks_holds g).least set closed u reached in cc
 
 -- what holds of each root unit, and of each unit to which one of which it holds refers, holds of the end of a walk
-walk_passes : (g : Graph) (P : List Name → Type 0) → ((u v : List Name) → IsUnit g u → IsUnit g v → P u → Refers g u v → P v) → (u : List Name) (rest : List (List Name)) (v : List Name) → IsUnit g u → P u → Walk g u rest v → P v
+walk_passes : (g : Graph) (P : List Name → Type 0) → ((u v : List Name) → IsUnit g u → IsUnit g v → P u → Refers g u v → P v)
+    → (u : List Name) (rest : List (List Name)) (v : List Name) → IsUnit g u → P u → Walk g u rest v → P v
 walk_passes g P passes u [] v unit start walk = subst P walk start
 walk_passes g P passes u (next ∷ rest) v unit start walk = walk_passes g P passes next rest v walk.0 (passes u next unit walk.0 start walk.1) walk.2
 
 -- and so of each unit that is reached
-pub reached_passes : (g : Graph) (P : List Name → Type 0) → ((u : List Name) → IsUnit g u → IsRootUnit g u → P u) → ((u v : List Name) → IsUnit g u → IsUnit g v → P u → Refers g u v → P v) → (u : List Name) → IsReached g u → P u
+pub reached_passes : (g : Graph) (P : List Name → Type 0) → ((u : List Name) → IsUnit g u → IsRootUnit g u → P u)
+    → ((u v : List Name) → IsUnit g u → IsUnit g v → P u → Refers g u v → P v) → (u : List Name) → IsReached g u → P u
 reached_passes g P roots passes u reached = walk_passes g P passes reached.root reached.rest u reached.unit (roots reached.root reached.unit reached.is_root) reached.walk

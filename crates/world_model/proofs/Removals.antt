@@ -46,7 +46,8 @@ named_lives_holds z history legal = let h = (barred z history legal).named in re
 
 pub black_refers_holds : BlackRefersToMarked
 black_refers_holds z history legal marking u v unit other refers is_black not_grey =
-    (barred z history legal).tricolour.black marking u v refers.from refers.slot refers.to (contains_among _ u unit) (contains_among _ v other) refers.member refers.target refers.cell is_black not_grey
+    (barred z history legal).tricolour.black marking u v refers.from refers.slot refers.to (contains_among _ u unit) (contains_among _ v other)
+    refers.member refers.target refers.cell is_black not_grey
 
 pub no_white_reached_holds : NoWhiteReached
 no_white_reached_holds z history legal marking none roots u reached =
@@ -138,14 +139,18 @@ roots_stay_marked_holds z before during legal marking h all =
 notes_kept : (s : State) (of : List Name) (n : Name) → Among of n ⊎ (has s.marks.kept n ≡ true) → has (run s (by Collector (map act.Kept of))).marks.kept n ≡ true
 notes_kept s [] n (inl k) = absurd k
 notes_kept s [] n (inr e) = e
-notes_kept s (m ∷ of) n (inl (inl e)) = notes_kept (next s (record { pass = Collector; act = act.Kept m })) of n (inr (or_left _ _ (subst (λ (x : Name). same_name n x ≡ true) (sym e) (same_name_refl n))))
+notes_kept s (m ∷ of) n (inl (inl e)) =
+    notes_kept (next s (record { pass = Collector; act = act.Kept m })) of n
+    (inr (or_left _ _ (subst (λ (x : Name). same_name n x ≡ true) (sym e) (same_name_refl n))))
 notes_kept s (m ∷ of) n (inl (inr k)) = notes_kept (next s (record { pass = Collector; act = act.Kept m })) of n (inl k)
 notes_kept s (m ∷ of) n (inr e) = notes_kept (next s (record { pass = Collector; act = act.Kept m })) of n (inr (or_right _ _ e))
 
 pub start_marks_roots_holds : StartMarksRoots
 start_marks_roots_holds z old new h =
     let notes : List Entry = by Collector (map act.Kept h.call.0.of) in
-    let left : state_of new ≡ run (next (state_of old) started) notes = state_after z old new Collector (act.BeginGc begin.Started) h ∙ ap (λ (acts : List Act). run (state_of old) (by Collector acts)) h.call.0.are in
+    let left : state_of new ≡ run (next (state_of old) started) notes =
+    state_after z old new Collector (act.BeginGc begin.Started) h
+    ∙ ap (λ (acts : List Act). run (state_of old) (by Collector acts)) h.call.0.are in
     let same : graph (run (next (state_of old) started) notes).world ≡ graph (after old) = all_keep (next (state_of old) started) notes (keeps_mark h.call.0.of) in
     subst RootsMarked (sym left) (λ u unit root.
     let some = test_among (has u) h.call.0.of (h.call.1.each u (subst (λ g. IsUnit g u) same unit) (subst (λ g. IsRootUnit g u) same root)) in
@@ -218,12 +223,23 @@ removal z s p (act.Loose of) may = keeps_or_removes s.world (with_loose s.world 
 
     go : (u : List Name) → IsUnit (graph s.world) u → (b : Bool) → ends_with of u ≡ b → IsUnit (graph now) u ⊎ IsParted now e u
     go u unit false out = inl (part u u unit (whole_part of u out))
-    go u unit true is = inr (record { of = of; left = but_last u; by = refl; was = ends_splits of u is; rest = part u (but_last u) unit (first_part of u is); alone = part u (of ∷ []) unit (last_part of u is) })
+    go u unit true is =
+        inr
+        (record {
+          of = of;
+          left = but_last u;
+          by = refl;
+          was = ends_splits of u is;
+          rest = part u (but_last u) unit (first_part of u is);
+          alone = part u (of ∷ []) unit (last_part of u is);
+        })
 
     pick : (u : List Name) → IsUnit (graph now) u ⊎ IsParted now e u → IsUnit (graph now) u ⊎ IsParted now e u ⊎ ((e ≡ done) × Contains now.last_removed u)
     pick u (inl stays) = inl stays
     pick u (inr parts) = inr (inl parts)
-removal z s p (act.BeginGc begin.Started) may = keeps_or_removes s.world (next_world s.marks s.world p (act.BeginGc begin.Started)) _ record { reached_stay = λ u reached. inl (reached_unit (graph s.world) u reached); others = λ u unit. inl unit }
+removal z s p (act.BeginGc begin.Started) may =
+    keeps_or_removes s.world (next_world s.marks s.world p (act.BeginGc begin.Started)) _
+    record { reached_stay = λ u reached. inl (reached_unit (graph s.world) u reached); others = λ u unit. inl unit }
 removal z s p a may = keeps_or_removes s.world (next_world s.marks s.world p a) _ record { reached_stay = λ u reached. inl (reached_unit (graph s.world) u reached); others = λ u unit. inl unit }
 
 pub reached_stay_holds : ReachedStay
@@ -261,11 +277,15 @@ lives_next : (z : Sizes) (s : State) (p : Pass) (a : Act) → MayBy z s p a → 
     → (in_world (next_world s.marks s.world p a) n ≡ true) ↔ ((has (made_by p a) n ≡ true) ⊎ ((in_world s.world n ≡ true) × (is_done a ≡ true → is_marked s.marks (unit_of s.world n) ≡ true)))
 lives_next z s p (act.Make kinds first) may apart n = (λ lives. before (lived s p (act.Make kinds first) n lives), now)
   where
-    before : (in_world s.world n ≡ true) ⊎ (has (names_from (lane_of p) first kinds) n ≡ true) → (has (names_from (lane_of p) first kinds) n ≡ true) ⊎ ((in_world s.world n ≡ true) × (false ≡ true → is_marked s.marks (unit_of s.world n) ≡ true))
+    before : (in_world s.world n ≡ true) ⊎ (has (names_from (lane_of p) first kinds) n ≡ true)
+        → (has (names_from (lane_of p) first kinds) n ≡ true)
+        ⊎ ((in_world s.world n ≡ true) × (false ≡ true → is_marked s.marks (unit_of s.world n) ≡ true))
     before (inl lives) = inr (lives, λ e. absurd cc)
     before (inr new) = inl new
 
-    now : (has (names_from (lane_of p) first kinds) n ≡ true) ⊎ ((in_world s.world n ≡ true) × (false ≡ true → is_marked s.marks (unit_of s.world n) ≡ true)) → in_world (next_world s.marks s.world p (act.Make kinds first)) n ≡ true
+    now : (has (names_from (lane_of p) first kinds) n ≡ true)
+        ⊎ ((in_world s.world n ≡ true) × (false ≡ true → is_marked s.marks (unit_of s.world n) ≡ true))
+        → in_world (next_world s.marks s.world p (act.Make kinds first)) n ≡ true
     now (inl new) = makes_living s p kinds first n new
     now (inr old) = living_stays s p (act.Make kinds first) n refl old.0
 lives_next z s p (act.CommitGc commit.Done) may apart n = (λ lives. inr (before lives), now)
@@ -301,5 +321,10 @@ lives_next z s p _ may apart n = (λ lives. inr (lives, λ e. absurd cc), λ h. 
 pub lives_after_holds : LivesAfter
 lives_after_holds z history e legal n =
     let parts = (histories_join.one_more z history e).0 legal in
-    subst (λ (s : State). (in_world s.world n ≡ true) ↔ ((has (made_by e.pass e.act) n ≡ true) ⊎ ((in_world (after history) n ≡ true) × (is_done e.act ≡ true → is_marked (state_of history).marks (unit_of (after history) n) ≡ true)))) (sym (one_more history e))
+    subst
+    (λ (s : State).
+    (in_world s.world n ≡ true)
+    ↔ ((has (made_by e.pass e.act) n ≡ true)
+    ⊎ ((in_world (after history) n ≡ true)
+    × (is_done e.act ≡ true → is_marked (state_of history).marks (unit_of (after history) n) ≡ true)))) (sym (one_more history e))
     (lives_next z (state_of history) e.pass e.act parts.1 (units_apart z history parts.0) n)

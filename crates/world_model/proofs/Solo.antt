@@ -17,7 +17,8 @@ use Rattle.world_model.proofs.ListFacts.{and_true, or_false, any_filter}
 use Rattle.world_model.proofs.Joins.{run-append, by-append, legal_split, legal_join}
 
 -- a solo call of these acts, where they are legal
-pub solo : (z : Sizes) (old : List Entry) (p : Pass) (a : Act) (acts : List Act) → CallOf (state_of old) p a acts → Legal z old → LegalFrom z (state_of old) (by p acts) → Appends z old (old ++ by p acts) p a
+pub solo : (z : Sizes) (old : List Entry) (p : Pass) (a : Act) (acts : List Act) → CallOf (state_of old) p a acts → Legal z old
+    → LegalFrom z (state_of old) (by p acts) → Appends z old (old ++ by p acts) p a
 solo z old p a acts call legal more = record { acts = acts; call = call; grown = refl; legal = legal_join z beginning old (by p acts) legal more }
 
 -- what a call leaves
@@ -104,7 +105,8 @@ notes_keep s p (a ∷ notes) all = let both = and_true _ _ all in notes_keep (ne
     one a is = absurd cc
 
 -- a slice leaves open what was open, but for its marker
-pub slice_opened : (s : State) (marker budget : ℕ) (reply : Marked) (acts : List Act) → SliceEntries budget reply acts → (run s (by (Marker marker) acts)).world.opened ≡ filter (λ q. not (same_pass (Marker marker) q)) s.world.opened
+pub slice_opened : (s : State) (marker budget : ℕ) (reply : Marked) (acts : List Act) → SliceEntries budget reply acts
+    → (run s (by (Marker marker) acts)).world.opened ≡ filter (λ q. not (same_pass (Marker marker) q)) s.world.opened
 slice_opened s marker budget reply acts h =
     let opening : List Act = act.SliceOpen ∷ h.notes in
     let closing : Entry = record { pass = Marker marker; act = act.Slice budget reply } in

@@ -107,7 +107,8 @@ old_or_new z s lane kinds first n may e h = go (cases_lt (length (s.world.kinds 
 pub was_made : (z : Sizes) (s : State) (p : Pass) (a : Act) (n : Name) → MayBy z s p a → IsMade (next_world s.marks s.world p a) n → IsMade s.world n ⊎ (has (made_by p a) n ≡ true)
 was_made z s (Lane lane) (act.Make kinds first) n may made = go (n.lane == lane) refl made
   where
-    go : (b : Bool) → (n.lane == lane) ≡ b → (1 ≤ n.count) × (n.count ≤ length (cond b (s.world.kinds lane ++ kinds) (s.world.kinds n.lane))) → IsMade s.world n ⊎ (has (names_from lane first kinds) n ≡ true)
+    go : (b : Bool) → (n.lane == lane) ≡ b → (1 ≤ n.count) × (n.count ≤ length (cond b (s.world.kinds lane ++ kinds) (s.world.kinds n.lane)))
+        → IsMade s.world n ⊎ (has (names_from lane first kinds) n ≡ true)
     go true e h = old_or_new z s lane kinds first n may.may e h
     go false e h = inl h
 was_made z s (Marker marker) (act.Make kinds first) n may made = absurd may.may

@@ -90,7 +90,9 @@ staged_make z s p kinds first n b f may known h = go (has (made_by p (act.Make k
         pick (inr k) = absurd (both_ways _ e k)
 
     go : (t : Bool) → has (made_by p (act.Make kinds first)) n ≡ t → IsStaged w' n (b + 0) (f + 0)
-    go false e = stays s.world w' n b f (b + 0) (f + 0) (old e) (made_stays s p (act.Make kinds first) n) (lives ∙ (rw e (or_none (in_world s.world n)))) refl (λ stage. refl) (plus_none b) (plus_none f) h
+    go false e =
+        stays s.world w' n b f (b + 0) (f + 0) (old e) (made_stays s p (act.Make kinds first) n) (lives ∙ (rw e (or_none (in_world s.world n)))) refl
+        (λ stage. refl) (plus_none b) (plus_none f) h
     go true e =
         let new = is_new z s p (act.Make kinds first) n may e in
         let zero = h.unmade new.0 in
@@ -180,7 +182,8 @@ staged_begun z s p of n b f may known h = go (same_name of n) refl
         let zero = h.removed (subst (λ (m : Name). is_at s.world Removed m ≡ true) (same_name_true of n e) is) in
         rw (flip_name of n true e)
         (staged_stage s.world of Removed Begun n b f 1 0 (made_removed s.world known.once of gone) (λ lives. not_both s.world known.once of lives gone) is
-        (λ k. absurd (both_ways _ (is_at-at_stage_same s.world of Begun Removed) k)) (λ k. (omega (arith, zero.0), omega (arith, zero.1))) (λ k. absurd (both_ways _ (is_at-at_stage_same s.world of Begun Finished) k)) e)
+        (λ k. absurd (both_ways _ (is_at-at_stage_same s.world of Begun Removed) k)) (λ k. (omega (arith, zero.0), omega (arith, zero.1)))
+        (λ k. absurd (both_ways _ (is_at-at_stage_same s.world of Begun Finished) k)) e)
 
 staged_finished : (z : Sizes) (s : State) (p : Pass) (of n : Name) (b f : ℕ) → MayBy z s p (act.Finished of) → IsSound s → IsStaged s.world n b f
     → IsStaged (at_stage s.world of Finished) n (b + 0) (f + cond (same_name n of) 1 0)
@@ -198,7 +201,8 @@ staged_finished z s p of n b f may known h = go (same_name of n) refl
         let one = h.begun (subst (λ (m : Name). is_at s.world Begun m ≡ true) (same_name_true of n e) is) in
         rw (flip_name of n true e)
         (staged_stage s.world of Begun Finished n b f 0 1 (made_removed s.world known.once of gone) (λ lives. not_both s.world known.once of lives gone) is
-        (λ k. absurd (both_ways _ (is_at-at_stage_same s.world of Finished Removed) k)) (λ k. absurd (both_ways _ (is_at-at_stage_same s.world of Finished Begun) k)) (λ k. (omega (arith, one.0), omega (arith, one.1))) e)
+        (λ k. absurd (both_ways _ (is_at-at_stage_same s.world of Finished Removed) k))
+        (λ k. absurd (both_ways _ (is_at-at_stage_same s.world of Finished Begun) k)) (λ k. (omega (arith, one.0), omega (arith, one.1))) e)
 
 staged_released : (z : Sizes) (s : State) (p : Pass) (of n : Name) (b f : ℕ) → MayBy z s p (act.Released of) → IsSound s → IsStaged s.world n b f
     → IsStaged (released s.world of) n (b + 0) (f + 0)
@@ -318,7 +322,8 @@ all_begun_first_holds z history legal n m removed gone =
     h : IsStaged (after history) m (times_begun history m) (times_finished history m)
     h = staged z history legal m
 
-    go : is_removed (after history) m ≡ true → is_at (after history) Finished m ≡ false → (r : Bool) → is_at (after history) Removed m ≡ r → (t : Bool) → is_at (after history) Begun m ≡ t → times_finished history m ≡ 0
+    go : is_removed (after history) m ≡ true → is_at (after history) Finished m ≡ false → (r : Bool) → is_at (after history) Removed m ≡ r
+        → (t : Bool) → is_at (after history) Begun m ≡ t → times_finished history m ≡ 0
     go k unfinished true e t g = (h.removed e).1
     go k unfinished false e true g = (h.begun g).1
     go k unfinished false e false g = absurd (both_ways _ unfinished (last_stage m (after history).removals k e g))
@@ -350,7 +355,8 @@ gone z = by_states z (λ s. (n : Name) → has (members s.world.last_removed) n 
 pub begun_when_finished_holds : BegunWhenFinished
 begun_when_finished_holds z history of legal n k =
     let parts = (histories_join.one_more z history (entry Collector (act.Finished of))).0 legal in
-    go (staged z history parts.0 n) (gone z history parts.0 n k) ((sound z history parts.0).agreed.none_removed of parts.1.finishes n) (is_removed (after history) n) refl (is_at (after history) Begun n) refl
+    go (staged z history parts.0 n) (gone z history parts.0 n k) ((sound z history parts.0).agreed.none_removed of parts.1.finishes n)
+    (is_removed (after history) n) refl (is_at (after history) Begun n) refl
   where
     go : IsStaged (after history) n (times_begun history n) (times_finished history n) → IsMade (after history) n × (in_world (after history) n ≡ false) → is_at (after history) Removed n ≡ false
         → (r : Bool) → is_removed (after history) n ≡ r → (t : Bool) → is_at (after history) Begun n ≡ t → times_begun history n ≡ 1
@@ -379,7 +385,9 @@ released_whole_holds z history of legal =
     leaves u all same n k =
         let removed = in_removals_at w Finished n (all_at (is_at w Finished) u n all (has_among u n k)) in
         ap (λ (ns : List Name). has ns n) names
-        ∙ among_has (filter (has (released_by w of)) (names_of w.removals)) n (filter_among (has (released_by w of)) (names_of w.removals) n (has_among (names_of w.removals) n (named_any n w.removals ∙ removed)) (same n ∙ k))
+        ∙ among_has (filter (has (released_by w of)) (names_of w.removals)) n
+        (filter_among (has (released_by w of)) (names_of w.removals) n (has_among (names_of w.removals) n (named_any n w.removals ∙ removed))
+        (same n ∙ k))
 
     was_in : (u : List Name) → ((n : Name) → has (released_by w of) n ≡ has u n) → (n : Name) → has (freed_by w (act.Released of)) n ≡ true → has u n ≡ true
     was_in u same n k =

@@ -45,7 +45,11 @@ first_part : (ns ms : List Name) → all_different (ns ++ ms) ≡ true → all_d
 first_part [] ms h = refl
 first_part (m ∷ ns) ms h =
     let parts = and_true _ _ h in
-    and_from _ _ (not_from_false _ (false_from_ne_true _ (λ k. both_ways (has (ns ++ ms) m) (not-true _ parts.0) (list_any-append (same_name m) ns ms ∙ or_left (has ns m) _ k)))) (first_part ns ms parts.1)
+    and_from _ _
+    (not_from_false _
+    (false_from_ne_true _
+    (λ k. both_ways (has (ns ++ ms) m) (not-true _ parts.0) (list_any-append (same_name m) ns ms ∙ or_left (has ns m) _ k))))
+    (first_part ns ms parts.1)
 
 some_units : (p : List Name → Bool) (units : List (List Name)) → all_different (members units) ≡ true → all_different (members (filter p units)) ≡ true
 some_units p [] d = refl
@@ -167,7 +171,8 @@ begun_next w of different next h =
         both_ways (has more of) (not-true _ (and_true _ _ tail).0) (among_has more of (subst (λ (m : Name). Among more m) (sym (same_name_true of n e)) k)))
 
 -- while removed objects are gathered none is begun
-begun_none : (rs : List Removal) (order : List Name) → ((r : Removal) → Among rs r → r.stage ≡ Removed) → ((n : Name) → has order n ≡ true → list_any (λ r. same_name n r.name) rs ≡ true) → IsBegun rs order
+begun_none : (rs : List Removal) (order : List Name) → ((r : Removal) → Among rs r → r.stage ≡ Removed)
+    → ((n : Name) → has order n ≡ true → list_any (λ r. same_name n r.name) rs ≡ true) → IsBegun rs order
 begun_none rs order are there = record {
   front = [];
   rest = order;
@@ -190,7 +195,9 @@ next_begun z s Collector (act.Sweep budget reply names) may known different h = 
     go : (stop : SweepStop) → SweepMay z s budget reply names stop → IsBegun s.world.removals (members (order_of s.world.last_removed (s.world.found ++ names)))
     go sweep.More may = gathering may.0.gathering
     go sweep.Settled may = gathering may.0.gathering
-    go (sweep.NotGathering phase) may = subst (λ (found : List Name). IsBegun s.world.removals (members (order_of s.world.last_removed found))) (sym (ap (λ (ns : List Name). s.world.found ++ ns) may.4 ∙ append-nil s.world.found)) h
+    go (sweep.NotGathering phase) may =
+        subst (λ (found : List Name). IsBegun s.world.removals (members (order_of s.world.last_removed found)))
+        (sym (ap (λ (ns : List Name). s.world.found ++ ns) may.4 ∙ append-nil s.world.found)) h
 next_begun z s (Lane lane) (act.Sweep budget reply names) may known different h = absurd may.may
 next_begun z s (Marker marker) (act.Sweep budget reply names) may known different h = absurd may.may
 next_begun z s p (act.Begun of) may known different h = begun_next s.world of different (begins_may z s p of may).next h
@@ -270,7 +277,8 @@ filter_twice : {A : Type 0} (p q : A → Bool) (xs : List A) → filter (λ x. p
 filter_twice p q [] = refl
 filter_twice {A} p q (x ∷ xs) = go (p x) (filter_twice p q xs)
   where
-    go : (b : Bool) → filter (λ x. p x && q x) xs ≡ filter q (filter p xs) → cond (b && q x) (x ∷ filter (λ x. p x && q x) xs) (filter (λ x. p x && q x) xs) ≡ filter q (cond b (x ∷ filter p xs) (filter p xs))
+    go : (b : Bool) → filter (λ x. p x && q x) xs ≡ filter q (filter p xs)
+        → cond (b && q x) (x ∷ filter (λ x. p x && q x) xs) (filter (λ x. p x && q x) xs) ≡ filter q (cond b (x ∷ filter p xs) (filter p xs))
     go true rest = ap (λ (ys : List A). cond (q x) (x ∷ ys) ys) rest
     go false rest = rest
 
@@ -306,7 +314,8 @@ round_after : (s : State) (x : Name) (poll : ℕ) (answer : Bool) (ns : List Nam
 round_after s x poll answer ns e = (λ i. filter (λ n. is_at-polled s.world x poll Begun n i) (rotated (Some x) (in_order s.world))) ∙ e
 
 -- it was asked itself
-turn_starts : (s : State) (of : Name) (poll : ℕ) (answer : Bool) (count : Name → ℕ) → all_different (in_order s.world) ≡ true → Asks s of poll → IsSound s → IsTurn (after_poll s of poll answer) of count
+turn_starts : (s : State) (of : Name) (poll : ℕ) (answer : Bool) (count : Name → ℕ) → all_different (in_order s.world) ≡ true → Asks s of poll
+    → IsSound s → IsTurn (after_poll s of poll answer) of count
 turn_starts s of poll answer count different may known =
     let turn = asked_round s of poll different may in
     record {
@@ -368,7 +377,8 @@ turn_next : (z : Sizes) (s : State) (p : Pass) (a : Act) (of : Name) (count : Na
     → IsTurn (next_by s (next_world s.marks s.world p a) p a) of (λ n. count n + cond (asks n a) 1 0)
 turn_next z s p a of count may known different now never h = go p a may now
   where
-    through : (p : Pass) (a : Act) → is_at (next_world s.marks s.world p a) Begun of ≡ true → Goes s (next_by s (next_world s.marks s.world p a) p a) → IsTurn (next_by s (next_world s.marks s.world p a) p a) of (λ n. count n + cond (asks n a) 1 0)
+    through : (p : Pass) (a : Act) → is_at (next_world s.marks s.world p a) Begun of ≡ true → Goes s (next_by s (next_world s.marks s.world p a) p a)
+        → IsTurn (next_by s (next_world s.marks s.world p a) p a) of (λ n. count n + cond (asks n a) 1 0)
     through p a now g =
         goes_on s (next_by s (next_world s.marks s.world p a) p a) of count (λ n. count n + cond (asks n a) 1 0) g now (λ n. omega arith) (h (and_true _ _ (sym (g.kept of) ∙ now)).0)
 
@@ -387,7 +397,10 @@ turn_next z s p a of count may known different now never h = go p a may now
         swept sweep.More may = absurd (unbegun s.world.removals (known.destroying.unbegun may.0.gathering) now)
         swept sweep.Settled may = absurd (unbegun s.world.removals (known.destroying.unbegun may.0.gathering) now)
         swept (sweep.NotGathering phase) may =
-            through Collector (act.Sweep budget reply names) now (goes_same s w' refl (ap (λ (found : List Name). members (order_of s.world.last_removed found)) (ap (λ (ns : List Name). s.world.found ++ ns) may.4 ∙ append-nil s.world.found)) refl)
+            through Collector (act.Sweep budget reply names) now
+            (goes_same s w' refl
+            (ap (λ (found : List Name). members (order_of s.world.last_removed found))
+            (ap (λ (ns : List Name). s.world.found ++ ns) may.4 ∙ append-nil s.world.found)) refl)
     go Collector (act.Begun x) may now = absurd (begun (same_name x of) refl)
       where
         waits : is_at s.world Removed x ≡ true
@@ -406,7 +419,9 @@ turn_next z s p a of count may known different now never h = go p a may now
     }
       where
         left : (n : Name) (b : Bool) → same_name x n ≡ b → is_at (at_stage s.world x Finished) Begun n ≡ (is_at s.world Begun n && not b)
-        left n true e = subst (λ (m : Name). is_at (at_stage s.world x Finished) Begun m ≡ (is_at s.world Begun m && false)) (same_name_true x n e) (is_at-at_stage_same s.world x Finished Begun ∙ and_comm false (is_at s.world Begun x))
+        left n true e =
+            subst (λ (m : Name). is_at (at_stage s.world x Finished) Begun m ≡ (is_at s.world Begun m && false)) (same_name_true x n e)
+            (is_at-at_stage_same s.world x Finished Begun ∙ and_comm false (is_at s.world Begun x))
         left n false e = is_at-at_stage_other s.world x Finished Begun n e ∙ and_comm true (is_at s.world Begun n)
     go Collector (act.Released x) may now = through Collector (act.Released x) now record {
       keep = λ n. not (has (released_by s.world x) n);
@@ -488,7 +503,9 @@ asked_in_turn_holds z before during of poll later answer other legal n ne begun 
     -- the object stands in the round
     there : Among (round s) n
     there = filter_among (is_at s.world Begun) (rotated s.collector.asked (in_order s.world)) n
-        (has_among _ n (has-rotated s.collector.asked (in_order s.world) n ∙ (sound z (polled_once ++ during) parts.0).destroying.covered parts.1.may.gathered n (in_removals_at s.world Begun n begun))) begun
+        (has_among _ n
+        (has-rotated s.collector.asked (in_order s.world) n
+        ∙ (sound z (polled_once ++ during) parts.0).destroying.covered parts.1.may.gathered n (in_removals_at s.world Begun n begun))) begun
 
     ends : (others : List Name) × (round s ≡ of ∷ others) × (filter (is_at s.world Begun) (rotated (Some of) (in_order s.world)) ≡ others ++ of ∷ []) × (has others of ≡ false)
         → (rest : List Name) → round s ≡ rest ++ of ∷ turn.polled → 1 ≤ times_asked during n

@@ -33,7 +33,8 @@ grown kinds lane more l = go (l == lane) refl
         omega arith
     go false e = omega arith
 
-pub new_made : (kinds : ℕ → List Kind) (lane : ℕ) (more : List Kind) (n : Name) → n.lane ≡ lane → n.count ≤ length (kinds lane) + length more → n.count ≤ length (set_at kinds lane (kinds lane ++ more) n.lane)
+pub new_made : (kinds : ℕ → List Kind) (lane : ℕ) (more : List Kind) (n : Name) → n.lane ≡ lane → n.count ≤ length (kinds lane) + length more
+    → n.count ≤ length (set_at kinds lane (kinds lane ++ more) n.lane)
 new_made kinds lane more n own below = go (n.lane == lane) refl
   where
     go : (b : Bool) → (n.lane == lane) ≡ b → n.count ≤ length (cond b (kinds lane ++ more) (kinds n.lane))
@@ -48,7 +49,8 @@ new_different lane first (k ∷ kinds) =
     (new_different lane (first + 1) kinds)
 
 -- with one more unit of new names
-with_unit_apart : (kinds : ℕ → List Kind) (units : List (List Name)) (lane first : ℕ) (more : List Kind) → first ≡ length (kinds lane) + 1 → AreApart kinds units → AreApart (set_at kinds lane (kinds lane ++ more)) (units ++ names_from lane first more ∷ [])
+with_unit_apart : (kinds : ℕ → List Kind) (units : List (List Name)) (lane first : ℕ) (more : List Kind) → first ≡ length (kinds lane) + 1
+    → AreApart kinds units → AreApart (set_at kinds lane (kinds lane ++ more)) (units ++ names_from lane first more ∷ [])
 with_unit_apart kinds units lane first more is h =
     record {
       made = λ u n m has_n. made' u n (among_append units (names_from lane first more ∷ []) u m) has_n;
@@ -60,7 +62,8 @@ with_unit_apart kinds units lane first more is h =
     one_lane' : (u : List Name) (n k : Name) → Among units u ⊎ ((names_from lane first more ≡ u) ⊎ ⊥) → has u n ≡ true → has u k ≡ true → n.lane ≡ k.lane
     one_lane' u n k (inl m) has_n has_k = h.one_lane u n k m has_n has_k
     one_lane' u n k (inr (inl e)) has_n has_k =
-        (names_from_range lane first more n (subst (λ (x : List Name). has x n ≡ true) (sym e) has_n)).0 ∙ sym (names_from_range lane first more k (subst (λ (x : List Name). has x k ≡ true) (sym e) has_k)).0
+        (names_from_range lane first more n (subst (λ (x : List Name). has x n ≡ true) (sym e) has_n)).0
+        ∙ sym (names_from_range lane first more k (subst (λ (x : List Name). has x k ≡ true) (sym e) has_k)).0
     one_lane' u n k (inr (inr e)) has_n has_k = absurd e
 
     different' : (u : List Name) → Among units u ⊎ ((names_from lane first more ≡ u) ⊎ ⊥) → all_different u ≡ true
@@ -133,7 +136,8 @@ loosened_apart kinds units of h = record {
     different' x u different (inr (e, s)) = ap all_different (sym s) ∙ different
 
 -- each step keeps the units apart
-pub next_apart : (z : Sizes) (s : State) (p : Pass) (a : Act) → MayBy z s p a → AreApart s.world.kinds s.world.units → AreApart (next_world s.marks s.world p a).kinds (next_world s.marks s.world p a).units
+pub next_apart : (z : Sizes) (s : State) (p : Pass) (a : Act) → MayBy z s p a → AreApart s.world.kinds s.world.units
+    → AreApart (next_world s.marks s.world p a).kinds (next_world s.marks s.world p a).units
 next_apart z s (Lane lane) (act.Make kinds first) may h = with_unit_apart s.world.kinds s.world.units lane first kinds may.may.next h
 next_apart z s (Marker marker) (act.Make kinds first) may h = absurd may.may
 next_apart z s Collector (act.Make kinds first) may h = absurd may.may

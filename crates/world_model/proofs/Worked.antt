@@ -13,7 +13,11 @@ pub made_one_legal : Legal level made_one
 made_one_legal = (
   record { in_range = lit< tt; frame = refl; may = refl },
   (
-    record { in_range = lit< tt; frame = record { opened = refl; continues = tt; parts = tt }; may = record { some = lit≤ tt; few = lit≤ tt; lawful = refl; next = refl; names = lit≤ tt; room = lit≤ tt } },
+    record {
+      in_range = lit< tt;
+      frame = record { opened = refl; continues = tt; parts = tt };
+      may = record { some = lit≤ tt; few = lit≤ tt; lawful = refl; next = refl; names = lit≤ tt; room = lit≤ tt };
+    },
     tt,
   ),
 )
@@ -36,7 +40,18 @@ kept_one_legal = legal_join level beginning rooted_one (drop 5 kept_one) rooted_
   (
     record { in_range = lit< tt; slice = refl; may = tt },
     (
-      record { in_range = lit< tt; slice = refl; may = record { marking = refl; living = refl; grey = refl; targets = λ v unit r. let e : ◌≡◌ {A = Option Name} None (Some r.to) = r.cell in absurd cc } },
+      record {
+        in_range = lit< tt;
+        slice = refl;
+        may =
+            record {
+              marking = refl;
+              living = refl;
+              grey = refl;
+              targets = λ v unit r. let e : ◌≡◌ {A = Option Name} None (Some r.to) = r.cell in
+                  absurd cc;
+            };
+      },
       (
         record { in_range = lit< tt; slice = refl; may = record { scanned = refl; within = lit< tt; stop = (lit< tt, inl refl) } },
         (

@@ -91,9 +91,11 @@ pub record Edges : Type 0 where
   pub held_in_frame : Edge small four_made (did (Lane 0) (act.Root (name 2) true false)) frame_again (did (Lane 0) (act.Root (name 2) true false))
   pub held_by_lane : Edge level two_lanes (did (Lane 0) (act.Root (name 1) true false)) two_lanes (did (Lane 1) (act.Root (name 1) true false))
   -- a slice may be idle while a unit is grey where a frame was open during it, though none is now
-  pub idle_in_company : Edge small in_company (did (Marker 0) (act.Slice 100 (record { scanned = 0; stop = stop.Idle }))) slice_opened (did (Marker 0) (act.Slice 100 (record { scanned = 0; stop = stop.Idle })))
+  pub idle_in_company : Edge small in_company (did (Marker 0) (act.Slice 100 (record { scanned = 0; stop = stop.Idle }))) slice_opened
+      (did (Marker 0) (act.Slice 100 (record { scanned = 0; stop = stop.Idle })))
   -- a slice spends its budget by the last unit that it scans, and by none before
-  pub spent_by_last : Edge small two_scanned (did (Marker 0) (act.Slice 2 (record { scanned = 2; stop = stop.Spent }))) two_scanned (did (Marker 0) (act.Slice 1 (record { scanned = 2; stop = stop.Spent })))
+  pub spent_by_last : Edge small two_scanned (did (Marker 0) (act.Slice 2 (record { scanned = 2; stop = stop.Spent }))) two_scanned
+      (did (Marker 0) (act.Slice 1 (record { scanned = 2; stop = stop.Spent })))
   -- a commit is refused for stores behind a frame that has marked a unit, and not behind another
   pub stores_marked : Edge small closed_marked (did Collector (act.CommitGc commit.Stores)) closed_unmarked (did Collector (act.CommitGc commit.Stores))
   -- it shows no more grey units than there are, and at least one

@@ -98,7 +98,9 @@ GivenIsHeld = (z : Sizes) (history : List Entry) (lane : ℕ) (a : Act) → Lega
 
 -- And what it holds it holds with all members of its unit.
 abbrev pub HeldWithUnit : Type 0
-HeldWithUnit = (z : Sizes) (history : List Entry) → Legal z history → (lane : ℕ) (n m : Name) → Holds (state_of history) lane n → IsTrue (has (unit_of (after history) n) m) → Holds (state_of history) lane m
+HeldWithUnit =
+    (z : Sizes) (history : List Entry) → Legal z history → (lane : ℕ) (n m : Name) → Holds (state_of history) lane n
+    → IsTrue (has (unit_of (after history) n) m) → Holds (state_of history) lane m
 
 -- what a cell of an object that lives names, what is rooted, and what a strong pointer names lives
 pub record NamesLive (w : World) : Type 0 where
@@ -133,7 +135,9 @@ RemovedAfter = (z : Sizes) (history : List Entry) (e : Entry) → Legal z (histo
 
 -- An object that was made and does not live does not live again.
 abbrev pub NoneComesBack : Type 0
-NoneComesBack = (z : Sizes) (before more : List Entry) → Legal z (before ++ more) → (n : Name) → IsMade (after before) n → in_world (after before) n ≡ false → in_world (after (before ++ more)) n ≡ false
+NoneComesBack =
+    (z : Sizes) (before more : List Entry) → Legal z (before ++ more) → (n : Name) → IsMade (after before) n → in_world (after before) n ≡ false
+    → in_world (after (before ++ more)) n ≡ false
 
 -- As long as an object lives and no member is taken out of its unit it stays in that unit.
 abbrev pub UnitStays : Type 0
@@ -376,7 +380,9 @@ times_asked history n = count_by (λ e. asks n e.act) history
 
 -- The polls of an object are numbered 1, 2, 3 and so on, up to 65,535, at which the number stays.
 abbrev pub PollsAreNumbered : Type 0
-PollsAreNumbered = (z : Sizes) (history : List Entry) (of : Name) (poll : ℕ) (answer : Bool) → Legal z (history ++ entry Collector (act.Asked of poll answer) ∷ []) → poll ≡ min (times_asked history of + 1) 65535
+PollsAreNumbered =
+    (z : Sizes) (history : List Entry) (of : Name) (poll : ℕ) (answer : Bool) → Legal z (history ++ entry Collector (act.Asked of poll answer) ∷ [])
+    → poll ≡ min (times_asked history of + 1) 65535
 
 -- Objects are polled in turn: between two polls of an object each other one that is begun and not finished is polled.
 abbrev pub AskedInTurn : Type 0
@@ -418,7 +424,9 @@ ResolveGives = (z : Sizes) → IsLawful z → (history : List Entry) (lane : ℕ
 
 -- And after its removal, or after it was marked as garbage, never again.
 abbrev pub ResolveGivesNoneAgain : Type 0
-ResolveGivesNoneAgain = (z : Sizes) → IsLawful z → (before more : List Entry) (n : Name) (pair : Weak) → WasGiven before n pair → (in_world (after before) n ≡ false) ⊎ IsTrue ((after before).garbage n)
+ResolveGivesNoneAgain =
+    (z : Sizes) → IsLawful z → (before more : List Entry) (n : Name) (pair : Weak) → WasGiven before n pair
+    → (in_world (after before) n ≡ false) ⊎ IsTrue ((after before).garbage n)
     → (lane : ℕ) (got : Option Name) → Legal z ((before ++ more) ++ entry (Lane lane) (act.Resolve pair got) ∷ []) → got ≡ None
 
 -- ---- garbage

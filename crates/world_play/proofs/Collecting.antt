@@ -1,5 +1,5 @@
 -- Slices and sweeps, one more at a time.
-use Rattle.std.proofs.Common.{min, ◌≡◌, ◌≢◌, ℕ, ◌+◌, ◌-◌, ◌*◌, ◌<◌, ◌≤◌, List, [], ◌∷◌, ◌++◌, append_assoc, append-nil, flat_map, map, length, length-append, IsTrue, refl, sym, ap, ◌∙◌, subst, arith, ◌⊎◌, inl, inr}
+use Rattle.std.proofs.Common.{min, ◌≡◌, ◌≢◌, ℕ, ◌+◌, ◌-◌, ◌*◌, ◌<◌, ◌≤◌, List, [], ◌∷◌, ◌++◌, append_assoc, append-nil, flat_map, length, length-append, refl, sym, ap, ◌∙◌, subst, arith, ◌⊎◌, inl, inr}
 use Rattle.std.specs.Prelude.{Result, Ok, Err, IfOk, OnErr}
 use Rattle.std.proofs.lemmas.Grind.{flat_map-append}
 use Rattle.world_model.specs.Sizes.{Sizes, item_count}
@@ -34,17 +34,38 @@ use Rattle.world_play.specs.Stages.{IsMarking, Marks, MarksOn, IsGathering, Find
 marked_is : (reply : Marked) (why : MarkStop) → reply.stop ≡ why → reply ≡ record { scanned = reply.scanned; stop = why }
 marked_is reply why e = λ i. record { scanned = reply.scanned; stop = e i }
 
-spent_more : (s : State) (budget : ℕ) (slices : List Slice) (reply : Marked) (acts : List Act) → SlicesSpent s budget slices → CallOf (run s (flat_map by_marker slices)) (Marker 0) (act.Slice budget reply) acts → reply.stop ≡ stop.Spent → SlicesSpent s budget (slices ++ record { marker = 0; acts = acts } ∷ [])
+spent_more : (s : State) (budget : ℕ) (slices : List Slice) (reply : Marked) (acts : List Act) → SlicesSpent s budget slices
+    → CallOf (run s (flat_map by_marker slices)) (Marker 0) (act.Slice budget reply) acts → reply.stop ≡ stop.Spent
+    → SlicesSpent s budget (slices ++ record { marker = 0; acts = acts } ∷ [])
 spent_more s budget [] reply acts h one spent = (refl, (reply.scanned, subst (λ (r : Marked). CallOf s (Marker 0) (act.Slice budget r) acts) (marked_is reply stop.Spent spent) one, tt))
-spent_more s budget (first ∷ rest) reply acts h one spent =
-    (h.0, (h.1.0, h.1.1, spent_more (run s (by_marker first)) budget rest reply acts h.1.2 (subst (λ (t : State). CallOf t (Marker 0) (act.Slice budget reply) acts) (run-append s (by_marker first) (flat_map by_marker rest)) one) spent))
+spent_more s budget (first ∷ rest) reply acts h one spent = (
+  h.0,
+  (
+    h.1.0,
+    h.1.1,
+    spent_more (run s (by_marker first)) budget rest reply acts h.1.2
+        (subst (λ (t : State). CallOf t (Marker 0) (act.Slice budget reply) acts) (run-append s (by_marker first) (flat_map by_marker rest)) one)
+        spent,
+  ),
+)
 
-spent_idle : (s : State) (budget : ℕ) (slices : List Slice) (reply : Marked) (acts : List Act) → SlicesSpent s budget slices → CallOf (run s (flat_map by_marker slices)) (Marker 0) (act.Slice budget reply) acts → reply.stop ≡ stop.Idle → SlicesUntilIdle s budget (slices ++ record { marker = 0; acts = acts } ∷ [])
+spent_idle : (s : State) (budget : ℕ) (slices : List Slice) (reply : Marked) (acts : List Act) → SlicesSpent s budget slices
+    → CallOf (run s (flat_map by_marker slices)) (Marker 0) (act.Slice budget reply) acts → reply.stop ≡ stop.Idle
+    → SlicesUntilIdle s budget (slices ++ record { marker = 0; acts = acts } ∷ [])
 spent_idle s budget [] reply acts h one idle = (reply.scanned, subst (λ (r : Marked). CallOf s (Marker 0) (act.Slice budget r) acts) (marked_is reply stop.Idle idle) one)
-spent_idle s budget (first ∷ []) reply acts h one idle =
-    (h.1.0, h.1.1, spent_idle (run s (by_marker first)) budget [] reply acts h.1.2 (subst (λ (t : State). CallOf t (Marker 0) (act.Slice budget reply) acts) (run-append s (by_marker first) []) one) idle)
-spent_idle s budget (first ∷ second ∷ rest) reply acts h one idle =
-    (h.1.0, h.1.1, spent_idle (run s (by_marker first)) budget (second ∷ rest) reply acts h.1.2 (subst (λ (t : State). CallOf t (Marker 0) (act.Slice budget reply) acts) (run-append s (by_marker first) (flat_map by_marker (second ∷ rest))) one) idle)
+spent_idle s budget (first ∷ []) reply acts h one idle = (
+  h.1.0,
+  h.1.1,
+  spent_idle (run s (by_marker first)) budget [] reply acts h.1.2
+      (subst (λ (t : State). CallOf t (Marker 0) (act.Slice budget reply) acts) (run-append s (by_marker first) []) one) idle,
+)
+spent_idle s budget (first ∷ second ∷ rest) reply acts h one idle = (
+  h.1.0,
+  h.1.1,
+  spent_idle (run s (by_marker first)) budget (second ∷ rest) reply acts h.1.2
+      (subst (λ (t : State). CallOf t (Marker 0) (act.Slice budget reply) acts)
+      (run-append s (by_marker first) (flat_map by_marker (second ∷ rest))) one) idle,
+)
 
 -- with one more they are all of marker 0
 spent_own : (s : State) (budget : ℕ) (slices : List Slice) (acts : List Act) → SlicesSpent s budget slices → AreOfFirst (slices ++ record { marker = 0; acts = acts } ∷ [])
@@ -52,7 +73,8 @@ spent_own s budget [] acts h = (refl, tt)
 spent_own s budget (first ∷ rest) acts h = (h.0, spent_own (run s (by_marker first)) budget rest acts h.1.2)
 
 -- the history with one more slice
-grown_more : (old mid new : List Entry) (slices : List Slice) (acts : List Act) → mid ≡ old ++ flat_map by_marker slices → new ≡ mid ++ by (Marker 0) acts → new ≡ old ++ flat_map by_marker (slices ++ record { marker = 0; acts = acts } ∷ [])
+grown_more : (old mid new : List Entry) (slices : List Slice) (acts : List Act) → mid ≡ old ++ flat_map by_marker slices
+    → new ≡ mid ++ by (Marker 0) acts → new ≡ old ++ flat_map by_marker (slices ++ record { marker = 0; acts = acts } ∷ [])
 grown_more old mid new slices acts before grown =
     grown ∙ ap (λ (h : List Entry). h ++ by (Marker 0) acts) before ∙ append_assoc old (flat_map by_marker slices) (by (Marker 0) acts)
     ∙ ap (λ (es : List Entry). old ++ (flat_map by_marker slices ++ es)) (sym (append-nil (by (Marker 0) acts)))
@@ -72,20 +94,26 @@ still_marking z mid new budget reply now h =
     }
 
 -- a slice that spent its budget
-pub marks_more : (z : Sizes) (old mid new : List Entry) (budget : ℕ) (reply : Marked) → MarksOn z old mid budget → Appends z mid new (Marker 0) (act.Slice budget reply) → reply.stop ≡ stop.Spent → MarksOn z old new budget
+pub marks_more : (z : Sizes) (old mid new : List Entry) (budget : ℕ) (reply : Marked) → MarksOn z old mid budget
+    → Appends z mid new (Marker 0) (act.Slice budget reply) → reply.stop ≡ stop.Spent → MarksOn z old new budget
 marks_more z old mid new budget reply on h spent = record {
   slices = on.slices ++ record { marker = 0; acts = h.acts } ∷ [];
-  marked = spent_more (state_of old) budget on.slices reply h.acts on.marked (subst (λ (t : State). CallOf t (Marker 0) (act.Slice budget reply) h.acts) (so_far old mid on.slices on.grown) h.call) spent;
+  marked =
+      spent_more (state_of old) budget on.slices reply h.acts on.marked
+      (subst (λ (t : State). CallOf t (Marker 0) (act.Slice budget reply) h.acts) (so_far old mid on.slices on.grown) h.call) spent;
   grown = grown_more old mid new on.slices h.acts on.grown h.grown;
   now = still_marking z mid new budget reply on.now h;
 }
 
 -- a slice that was idle
-pub marks_all : (z : Sizes) (old mid new : List Entry) (budget : ℕ) (reply : Marked) → MarksOn z old mid budget → Appends z mid new (Marker 0) (act.Slice budget reply) → reply.stop ≡ stop.Idle → Marks z old new budget
+pub marks_all : (z : Sizes) (old mid new : List Entry) (budget : ℕ) (reply : Marked) → MarksOn z old mid budget
+    → Appends z mid new (Marker 0) (act.Slice budget reply) → reply.stop ≡ stop.Idle → Marks z old new budget
 marks_all z old mid new budget reply on h idle = record {
   slices = on.slices ++ record { marker = 0; acts = h.acts } ∷ [];
   marked = record {
-    idle = spent_idle (state_of old) budget on.slices reply h.acts on.marked (subst (λ (t : State). CallOf t (Marker 0) (act.Slice budget reply) h.acts) (so_far old mid on.slices on.grown) h.call) idle;
+    idle =
+        spent_idle (state_of old) budget on.slices reply h.acts on.marked
+        (subst (λ (t : State). CallOf t (Marker 0) (act.Slice budget reply) h.acts) (so_far old mid on.slices on.grown) h.call) idle;
     own = spent_own (state_of old) budget on.slices h.acts on.marked;
   };
   grown = grown_more old mid new on.slices h.acts on.grown h.grown;
@@ -103,7 +131,8 @@ spent_scanned z mid new budget reply h spent =
     subst (λ (why : MarkStop). MayStop (run (state_of mid) (by (Marker 0) opening)) 0 budget reply why) spent parts.1.0.may.stop
 
 -- and leaves less to scan
-pub marks_less : (z : Sizes) (mid new : List Entry) (budget : ℕ) (reply : Marked) → Appends z mid new (Marker 0) (act.Slice budget reply) → reply.stop ≡ stop.Spent → 1 ≤ budget → left_to_scan (state_of new) < left_to_scan (state_of mid)
+pub marks_less : (z : Sizes) (mid new : List Entry) (budget : ℕ) (reply : Marked) → Appends z mid new (Marker 0) (act.Slice budget reply)
+    → reply.stop ≡ stop.Spent → 1 ≤ budget → left_to_scan (state_of new) < left_to_scan (state_of mid)
 marks_less z mid new budget reply h spent some =
     let scanned = spent_scanned z mid new budget reply h spent in
     subst (λ (t : State). left_to_scan t < left_to_scan (state_of mid)) (sym (state_after z mid new (Marker 0) (act.Slice budget reply) h))
@@ -111,24 +140,29 @@ marks_less z mid new budget reply h spent some =
 
 -- ---- sweeps
 
-found_more : (budget : ℕ) (more : List Act) (names : List Name) (r : Swept) → SweepsMore budget more → r.stop ≡ sweep.More → r.looked ≡ budget → SweepsMore budget (more ++ act.Sweep budget r names ∷ [])
+found_more : (budget : ℕ) (more : List Act) (names : List Name) (r : Swept) → SweepsMore budget more → r.stop ≡ sweep.More → r.looked ≡ budget
+    → SweepsMore budget (more ++ act.Sweep budget r names ∷ [])
 found_more budget [] names r h stopped looked = (refl, stopped, looked, tt)
 found_more budget (act.Sweep b q first ∷ more) names r h stopped looked = (h.0, h.1, h.2, found_more budget more names r h.3 stopped looked)
 found_more budget (a ∷ more) names r h stopped looked = absurd h
 
 -- the history with one more sweep
-swept_more : (old mid new : List Entry) (sweeps : List Act) (a : Act) (acts : List Act) → mid ≡ old ++ by Collector sweeps → acts ≡ a ∷ [] → new ≡ mid ++ by Collector acts → new ≡ old ++ by Collector (sweeps ++ a ∷ [])
+swept_more : (old mid new : List Entry) (sweeps : List Act) (a : Act) (acts : List Act) → mid ≡ old ++ by Collector sweeps → acts ≡ a ∷ []
+    → new ≡ mid ++ by Collector acts → new ≡ old ++ by Collector (sweeps ++ a ∷ [])
 swept_more old mid new sweeps a acts before one grown =
     grown ∙ ap (λ (h : List Entry). h ++ by Collector acts) before ∙ ap (λ (xs : List Act). (old ++ by Collector sweeps) ++ by Collector xs) one
     ∙ append_assoc old (by Collector sweeps) (by Collector (a ∷ [])) ∙ ap (λ (es : List Entry). old ++ es) (sym (by-append Collector sweeps (a ∷ [])))
 
 -- what is known of a sweep while a collection gathers
-sweep_may : (z : Sizes) (mid new : List Entry) (budget : ℕ) (reply : Swept) (names : List Name) → Appends z mid new Collector (act.Sweep budget reply names) → SweepMay z (state_of mid) budget reply names reply.stop
+sweep_may : (z : Sizes) (mid new : List Entry) (budget : ℕ) (reply : Swept) (names : List Name)
+    → Appends z mid new Collector (act.Sweep budget reply names) → SweepMay z (state_of mid) budget reply names reply.stop
 sweep_may z mid new budget reply names h = (subst (LegalFrom z (state_of mid)) (ap (by Collector) h.call.0) (legal_call z mid new Collector (act.Sweep budget reply names) h)).0.may
 
 -- why it stopped, and what it leaves
 swept_world : (z : Sizes) (mid new : List Entry) (budget : ℕ) (reply : Swept) (names : List Name) → Appends z mid new Collector (act.Sweep budget reply names) → reply.stop ≡ sweep.More
-    → ((after new).phase ≡ (after mid).phase) × ((after new).swept ≡ (after mid).swept + reply.looked) × ((after mid).swept + reply.looked < item_count z) × (reply.found ≡ length names) × (length names ≤ reply.looked) × (reply.looked ≤ budget) × ((after new).opened ≡ (after mid).opened)
+    → ((after new).phase ≡ (after mid).phase) × ((after new).swept ≡ (after mid).swept + reply.looked)
+    × ((after mid).swept + reply.looked < item_count z) × (reply.found ≡ length names) × (length names ≤ reply.looked) × (reply.looked ≤ budget)
+    × ((after new).opened ≡ (after mid).opened)
 swept_world z mid new budget reply names h more =
     let left = state_after_one z mid new Collector (act.Sweep budget reply names) h h.call.0 in
     let may = subst (SweepMay z (state_of mid) budget reply names) more (sweep_may z mid new budget reply names h) in (
@@ -142,13 +176,16 @@ swept_world z mid new budget reply names h more =
     )
 
 -- the names that a sweep found are found after those before it
-swept_names : (z : Sizes) (old mid new : List Entry) (budget : ℕ) (reply : Swept) (found names : List Name) → (after mid).found ≡ (after old).found ++ found → Appends z mid new Collector (act.Sweep budget reply names) → (after new).found ≡ (after old).found ++ (found ++ names)
+swept_names : (z : Sizes) (old mid new : List Entry) (budget : ℕ) (reply : Swept) (found names : List Name)
+    → (after mid).found ≡ (after old).found ++ found → Appends z mid new Collector (act.Sweep budget reply names)
+    → (after new).found ≡ (after old).found ++ (found ++ names)
 swept_names z old mid new budget reply found names was h =
     ap (λ (s : State). s.world.found) (state_after_one z mid new Collector (act.Sweep budget reply names) h h.call.0)
     ∙ ap (λ (xs : List Name). xs ++ names) was ∙ append_assoc (after old).found found names
 
 -- a sweep that stopped for its budget, or because there was no more room than that, or than for all items
-pub finds_more : (z : Sizes) (old mid new : List Entry) (budget : ℕ) (reply : Swept) (found names : List Name) → FindsOn z old mid budget found → Appends z mid new Collector (act.Sweep budget reply names) → reply.stop ≡ sweep.More
+pub finds_more : (z : Sizes) (old mid new : List Entry) (budget : ℕ) (reply : Swept) (found names : List Name) → FindsOn z old mid budget found
+    → Appends z mid new Collector (act.Sweep budget reply names) → reply.stop ≡ sweep.More
     → ((reply.looked ≡ budget) ⊎ (reply.found ≡ min budget (item_count z))) → FindsOn z old new budget (found ++ names)
 finds_more z old mid new budget reply found names on h more why =
     let world = swept_world z mid new budget reply names h more in
@@ -163,7 +200,8 @@ finds_more z old mid new budget reply found names on h more why =
       now = record { legal = h.legal; gathering = world.0 ∙ on.now.gathering };
     }
   where
-    whole : (after mid).swept + reply.looked < item_count z → reply.found ≡ length names → length names ≤ reply.looked → reply.looked ≤ budget → ((reply.looked ≡ budget) ⊎ (reply.found ≡ min budget (item_count z))) → reply.looked ≡ budget
+    whole : (after mid).swept + reply.looked < item_count z → reply.found ≡ length names → length names ≤ reply.looked → reply.looked ≤ budget
+        → ((reply.looked ≡ budget) ⊎ (reply.found ≡ min budget (item_count z))) → reply.looked ≡ budget
     whole few a b c (inl e) = e
     whole few a b c (inr e) = omega (arith, few, a, b, c, e)
 
@@ -175,17 +213,20 @@ finds_less z mid new budget reply names h more why some =
     let looked : 1 ≤ reply.looked = whole world.2 world.3 world.4 why in
     rw world.1 (omega (arith, looked, world.2))
   where
-    whole : (after mid).swept + reply.looked < item_count z → reply.found ≡ length names → length names ≤ reply.looked → ((reply.looked ≡ budget) ⊎ (reply.found ≡ min budget (item_count z))) → 1 ≤ reply.looked
+    whole : (after mid).swept + reply.looked < item_count z → reply.found ≡ length names → length names ≤ reply.looked
+        → ((reply.looked ≡ budget) ⊎ (reply.found ≡ min budget (item_count z))) → 1 ≤ reply.looked
     whole few a b (inl e) = omega arith
     whole few a b (inr e) = omega (arith, few, a, b, e)
 
 -- while a collection gathers a sweep that does not stop for its budget has settled
-has_settled : (z : Sizes) (s : State) (budget : ℕ) (reply : Swept) (names : List Name) (why : SweepStop) → s.world.phase ≡ Gathering → SweepMay z s budget reply names why → why ≢ sweep.More → why ≡ sweep.Settled
+has_settled : (z : Sizes) (s : State) (budget : ℕ) (reply : Swept) (names : List Name) (why : SweepStop) → s.world.phase ≡ Gathering
+    → SweepMay z s budget reply names why → why ≢ sweep.More → why ≡ sweep.Settled
 has_settled z s budget reply names sweep.More gathering may other = absurd (other refl)
 has_settled z s budget reply names sweep.Settled gathering may other = refl
 has_settled z s budget reply names (sweep.NotGathering phase) gathering may other = absurd (may.1 (may.0 ∙ gathering))
 
-pub finds_all : (z : Sizes) (old mid new : List Entry) (budget : ℕ) (reply : Swept) (found names : List Name) → FindsOn z old mid budget found → Appends z mid new Collector (act.Sweep budget reply names) → reply.stop ≢ sweep.More → Finds z old new budget (found ++ names)
+pub finds_all : (z : Sizes) (old mid new : List Entry) (budget : ℕ) (reply : Swept) (found names : List Name) → FindsOn z old mid budget found
+    → Appends z mid new Collector (act.Sweep budget reply names) → reply.stop ≢ sweep.More → Finds z old new budget (found ++ names)
 finds_all z old mid new budget reply found names on h other =
     let settled_now : reply.stop ≡ sweep.Settled = has_settled z (state_of mid) budget reply names reply.stop on.now.gathering (sweep_may z mid new budget reply names h) other in
     let may = subst (SweepMay z (state_of mid) budget reply names) settled_now (sweep_may z mid new budget reply names h) in
@@ -203,7 +244,8 @@ finds_all z old mid new budget reply found names on h other =
     }
 
 -- after one more sweep some sweeps were made, or all
-pub finds_some : (z : Sizes) (old mid new : List Entry) (budget : ℕ) (reply : Swept) (found names : List Name) → FindsOn z old mid budget found → Appends z mid new Collector (act.Sweep budget reply names)
+pub finds_some : (z : Sizes) (old mid new : List Entry) (budget : ℕ) (reply : Swept) (found names : List Name) → FindsOn z old mid budget found
+    → Appends z mid new Collector (act.Sweep budget reply names)
     → (reply.stop ≡ sweep.More → (reply.looked ≡ budget) ⊎ (reply.found ≡ min budget (item_count z))) → FindsSome z old new budget
 finds_some z old mid new budget reply found names on h why = go reply.stop refl
   where
@@ -237,7 +279,8 @@ committed_all z mid new reply h now black =
     )
 
 -- what there is of a collection where its sweeps were not made to their end
-pub goes_on_some : (z : Sizes) (budget : ℕ) (old mid later new : List Entry) → Marks z old mid budget → later ≡ mid ++ by Collector (act.CommitGc commit.Done ∷ []) → FindsSome z later new budget → GoesOnSome z budget old new
+pub goes_on_some : (z : Sizes) (budget : ℕ) (old mid later new : List Entry) → Marks z old mid budget
+    → later ≡ mid ++ by Collector (act.CommitGc commit.Done ∷ []) → FindsSome z later new budget → GoesOnSome z budget old new
 goes_on_some z budget old mid later new marks committed finds = record {
   slices = marks.slices;
   sweeps = finds.sweeps;
@@ -285,7 +328,9 @@ collected_kinds z old new piece grown legal none =
     ∙ ap (λ (s : State). s.world.kinds) (run-append beginning old piece)
     ∙ kinds_kept z (state_of old) piece none (legal_split z beginning old piece (subst (Legal z) grown legal)).1
 
-pub collects_all : (z : Sizes) (budget : ℕ) (header : Header) (old mid new : List Entry) (before between now : Holdings) (r : Reply) → Appends z old mid Collector (act.BeginGc begin.Started) → KeepsHeld before between → GoesOn z budget header mid new between now r → Collects z budget header old new before now gc_cmd.Full r
+pub collects_all : (z : Sizes) (budget : ℕ) (header : Header) (old mid new : List Entry) (before between now : Holdings) (r : Reply)
+    → Appends z old mid Collector (act.BeginGc begin.Started) → KeepsHeld before between → GoesOn z budget header mid new between now r
+    → Collects z budget header old new before now gc_cmd.Full r
 collects_all z budget header old mid new before between now r h held on =
     let begins : List Entry = by Collector h.acts in
     let marks : List Entry = flat_map by_marker on.slices in
@@ -328,7 +373,8 @@ collects_all z budget header old mid new before between now r h held on =
     }
 
 -- a collection that was begun and not told to its end
-pub collects_some : (z : Sizes) (budget : ℕ) (old mid new : List Entry) → Appends z old mid Collector (act.BeginGc begin.Started) → GoesOnSome z budget mid new → CollectsSome z budget old new gc_cmd.Full
+pub collects_some : (z : Sizes) (budget : ℕ) (old mid new : List Entry) → Appends z old mid Collector (act.BeginGc begin.Started)
+    → GoesOnSome z budget mid new → CollectsSome z budget old new gc_cmd.Full
 collects_some z budget old mid new h on =
     let begins : List Entry = by Collector h.acts in
     let marks : List Entry = flat_map by_marker on.slices in
@@ -343,7 +389,8 @@ collects_some z budget old mid new h on =
     }
 
 -- a refusal to begin: its one entry, the frames that it leaves open, and what is told
-pub refuses : (z : Sizes) (budget : ℕ) (header : Header) (old new : List Entry) (before now : Holdings) (why : Begin) (r : Reply) → RefusesBegin why r → Appends z old new Collector (act.BeginGc why) → KeepsHeld before now → Collects z budget header old new before now gc_cmd.Full r
+pub refuses : (z : Sizes) (budget : ℕ) (header : Header) (old new : List Entry) (before now : Holdings) (why : Begin) (r : Reply) → RefusesBegin why r
+    → Appends z old new Collector (act.BeginGc why) → KeepsHeld before now → Collects z budget header old new before now gc_cmd.Full r
 refuses z budget header old new before now why r tells h held = record {
   piece = by Collector h.acts;
   grown = h.grown;

@@ -186,7 +186,8 @@ names_filter p (r ∷ removals) h =
         step true more = let apart = neither (same_name r.name q.name) (has (names_of rs) r.name) e in let first : same_name r.name q.name ≡ false = apart.0 in rw first (more apart.1)
         step false more = more (neither (same_name r.name q.name) (has (names_of rs) r.name) e).1
 
-    either : (b : Bool) → not (has (names_of (filter p removals)) r.name) ≡ true → all_different (names_of (filter p removals)) ≡ true → all_different (names_of (cond b (r ∷ filter p removals) (filter p removals))) ≡ true
+    either : (b : Bool) → not (has (names_of (filter p removals)) r.name) ≡ true → all_different (names_of (filter p removals)) ≡ true
+        → all_different (names_of (cond b (r ∷ filter p removals) (filter p removals))) ≡ true
     either true out rest = rw (out, rest) refl
     either false out rest = rest
 
@@ -208,7 +209,8 @@ in_order : (units : List (List Name)) (found : List Name) (u : List Name) → Am
 in_order units [] u h = absurd h
 in_order units (n ∷ found) u h = go (among_append (filter (begins_with n) units) _ u h) (in_order units found u)
   where
-    go : Among (filter (begins_with n) units) u ⊎ Among (flat_map (λ m. filter (begins_with m) units) found) u → (Among (flat_map (λ m. filter (begins_with m) units) found) u → Among units u) → Among units u
+    go : Among (filter (begins_with n) units) u ⊎ Among (flat_map (λ m. filter (begins_with m) units) found) u
+        → (Among (flat_map (λ m. filter (begins_with m) units) found) u → Among units u) → Among units u
     go (inl a) rest = among_filter (begins_with n) units u a
     go (inr b) rest = rest b
 
@@ -285,7 +287,8 @@ again_at of polls stage n [] = refl
 again_at of polls stage n (r ∷ removals) = either (same_name of r.name) (again_at of polls stage n removals)
   where
     either : (b : Bool) → list_any (λ q. same_name n q.name && has_stage stage q.stage) (map (asked_again of polls) removals) ≡ list_any (λ q. same_name n q.name && has_stage stage q.stage) removals
-        → ((same_name n (cond b (record r { polls = polls }) r).name && has_stage stage (cond b (record r { polls = polls }) r).stage) || list_any (λ q. same_name n q.name && has_stage stage q.stage) (map (asked_again of polls) removals))
+        → ((same_name n (cond b (record r { polls = polls }) r).name && has_stage stage (cond b (record r { polls = polls }) r).stage)
+        || list_any (λ q. same_name n q.name && has_stage stage q.stage) (map (asked_again of polls) removals))
         ≡ ((same_name n r.name && has_stage stage r.stage) || list_any (λ q. same_name n q.name && has_stage stage q.stage) removals)
     either true e = ap (λ (x : Bool). (same_name n r.name && has_stage stage r.stage) || x) e
     either false e = ap (λ (x : Bool). (same_name n r.name && has_stage stage r.stage) || x) e
@@ -396,7 +399,8 @@ part_agrees z header w s (act.Asked of poll answer) step table says =
     says ∙ rw (class, table.at_once (class_of w of), some) refl
 part_agrees z header w s a step table says = tt
 
-parts_agree : (z : Sizes) (header : Header) (w : World) (s : State) (acts : List Act) → LegalFrom z s (by Collector acts) → InTable header w → AllByRecursion (AnswersBy header w) acts → AllByRecursion AgreesAtOnce acts
+parts_agree : (z : Sizes) (header : Header) (w : World) (s : State) (acts : List Act) → LegalFrom z s (by Collector acts) → InTable header w
+    → AllByRecursion (AnswersBy header w) acts → AllByRecursion AgreesAtOnce acts
 parts_agree z header w s [] legal table says = tt
 parts_agree z header w s (a ∷ rest) legal table says = (part_agrees z header w s a legal.0 table says.0, parts_agree z header w (next s (entry_of a)) rest legal.1 table says.1)
 

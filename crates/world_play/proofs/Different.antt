@@ -132,4 +132,6 @@ run_different z s (e ∷ entries) legal apart h =
     run_different z (next s e) entries legal.1 (next_apart z s e.pass e.act legal.0 apart) one
 
 pub members_different : (z : Sizes) (history : List Entry) → Legal z history → all_different (members (after history).units) ≡ true
-members_different z history legal = run_different z beginning history legal (record { made = λ u n m. absurd m; apart = λ u v n m. absurd m; different = λ u m. absurd m; one_lane = λ u n k m. absurd m }) refl
+members_different z history legal =
+    run_different z beginning history legal
+    (record { made = λ u n m. absurd m; apart = λ u v n m. absurd m; different = λ u m. absurd m; one_lane = λ u n k m. absurd m }) refl

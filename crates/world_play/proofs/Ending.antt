@@ -121,7 +121,8 @@ told_plain classes (reply.Object lane n class) plain = plain class
 told_plain classes r plain = tt
 
 -- the text of lines has one line feed for each
-pub text_feeds : (budget : ℕ) (header : Header) (s : State) (names last : Bindings) (lines : List Line) (pieces : List (List Entry)) (replies : List Reply) → PlainNames header.classes.classes → Plays budget header s names lines pieces replies last
+pub text_feeds : (budget : ℕ) (header : Header) (s : State) (names last : Bindings) (lines : List Line) (pieces : List (List Entry))
+    (replies : List Reply) → PlainNames header.classes.classes → Plays budget header s names lines pieces replies last
     → line_feeds (text header.classes.classes replies) ≡ length lines
 unfolding Plays
 text_feeds budget header s names last [] [] [] plain plays = refl
@@ -135,7 +136,8 @@ text_feeds budget header s names last (l ∷ lines) [] replies plain plays = abs
 text_feeds budget header s names last (l ∷ lines) (p ∷ pieces) [] plain plays = absurd plays
 
 -- a beginning of a reply has none
-stops_plain : (budget : ℕ) (header : Header) (s : State) (names : Bindings) (rest : List Line) (part : List Entry) (some : List ℕ) → PlainNames header.classes.classes → Stops budget header s names rest part some → line_feeds some ≡ 0
+stops_plain : (budget : ℕ) (header : Header) (s : State) (names : Bindings) (rest : List Line) (part : List Entry) (some : List ℕ)
+    → PlainNames header.classes.classes → Stops budget header s names rest part some → line_feeds some ≡ 0
 stops_plain budget header s names [] part some plain h = ap line_feeds h.1
 stops_plain budget header s names (l ∷ ls) part some plain (inl (made, none)) = ap line_feeds none
 stops_plain budget header s names (l ∷ ls) part some plain (inr (r, new, turn, start)) = start_plain some _ start (is_line header.classes.classes r (told_plain header.classes.classes r plain))
@@ -148,11 +150,13 @@ counts_gained (Some xs) has bytes count put e = (bytes, put, e)
 counts_none : (had has : Option (List ℕ)) (count : ℕ) → has ≡ had → count ≡ 0 → CountsLines had has count
 counts_none had has count same none = counts_gained had has [] count (subst (λ (now : Option (List ℕ)). Gained had now []) (sym same) (gained_none had)) none
 
-counts_all : (z : Sizes) (budget : ℕ) (header : Header) (lines : List Line) (history : List Entry) (had has : Option (List ℕ)) (count : ℕ) → PlainNames header.classes.classes → Played z budget header lines history had has → count ≡ length lines → CountsLines had has count
+counts_all : (z : Sizes) (budget : ℕ) (header : Header) (lines : List Line) (history : List Entry) (had has : Option (List ℕ)) (count : ℕ)
+    → PlainNames header.classes.classes → Played z budget header lines history had has → count ≡ length lines → CountsLines had has count
 counts_all z budget header lines history had has count plain h number =
     counts_gained had has (text header.classes.classes h.replies) count h.put (number ∙ sym (text_feeds budget header beginning no_bindings h.last lines h.pieces h.replies plain h.plays))
 
-counts_some : (z : Sizes) (budget : ℕ) (header : Header) (lines : List Line) (history : List Entry) (had has : Option (List ℕ)) (count : ℕ) → PlainNames header.classes.classes → Stopped z budget header lines history had has count → CountsLines had has count
+counts_some : (z : Sizes) (budget : ℕ) (header : Header) (lines : List Line) (history : List Entry) (had has : Option (List ℕ)) (count : ℕ)
+    → PlainNames header.classes.classes → Stopped z budget header lines history had has count → CountsLines had has count
 counts_some z budget header lines history had has count plain h =
     let whole : line_feeds (text header.classes.classes h.replies) ≡ length h.whole = text_feeds budget header beginning no_bindings h.names h.whole h.pieces h.replies plain h.plays in
     let rest : line_feeds h.some ≡ 0 = stops_plain budget header _ h.names h.rest h.part h.some plain h.stops in
@@ -160,7 +164,8 @@ counts_some z budget header lines history had has count plain h =
 
 -- ---- what a run that played says of the whole of it
 
-pub counts_of : (z : Sizes) (budget : ℕ) (how : Status) (script : Script) (r : Option (List Entry)) (had has : Option (List ℕ)) (count : ℕ) → PlainNames script.classes.classes → WasPlayed z budget how script r had has count → CountsLines had has count
+pub counts_of : (z : Sizes) (budget : ℕ) (how : Status) (script : Script) (r : Option (List Entry)) (had has : Option (List ℕ)) (count : ℕ)
+    → PlainNames script.classes.classes → WasPlayed z budget how script r had has count → CountsLines had has count
 counts_of z budget how script None had has count plain h = counts_none had has count h.0 h.1
 counts_of z budget status.Ok script (Some history) had has count plain h = counts_all z budget (header_of script) script.lines _ had has count plain h.0 h.1
 counts_of z budget status.Usage script (Some history) had has count plain h = counts_some z budget (header_of script) script.lines _ had has count plain h
@@ -182,7 +187,9 @@ all_taken : (limits : Limits) (left now : Option (List ℕ)) (script : Script) �
 all_taken limits None now script is taken = tt
 all_taken limits (Some input) now script is taken = taken ∙ ap (λ (xs : List ℕ). Some xs) (nothing_left input script limits (ap (λ (xs : List ℕ). script_of xs limits) is.told ∙ is.is))
 
-pub headline_of : (w : Words) (how : Status) (left now : Option (List ℕ)) (script : Script) (r : Option Run) (had has : Option (List ℕ)) (count : ℕ) → IsScript (limits_in w.shape) left script → WasTaken left now → PlayedAs w how script r had has count → OnDone how (IfSome r (EndsWell w left now had has))
+pub headline_of : (w : Words) (how : Status) (left now : Option (List ℕ)) (script : Script) (r : Option Run) (had has : Option (List ℕ)) (count : ℕ)
+    → IsScript (limits_in w.shape) left script → WasTaken left now → PlayedAs w how script r had has count
+    → OnDone how (IfSome r (EndsWell w left now had has))
 headline_of w status.Ok left now script None had has count is taken h = tt
 headline_of w status.Ok left now script (Some engine) had has count is taken h = record { script = script; read = is; all = all_taken (limits_in w.shape) left now script is taken; played = h.0 }
 headline_of w status.Usage left now script r had has count is taken h = tt
@@ -200,36 +207,49 @@ fits_class vars header frames (cmd.Lane lane what) h = go what (and_true (nat_lt
   where
     go : (what : LaneCmd) → fits_lane (slice_index vars lane) (length header.classes.classes) (length header.fields) (slice_index_or frames lane false) what ≡ true → LaneClass header what
     go (lane_cmd.New var class) h =
-        let last : nat_lt class.0 (length header.classes.classes) ≡ true = (and_true (slice_index_or frames lane false && nat_lt var (slice_index vars lane)) (nat_lt class.0 (length header.classes.classes)) h).1 in
+        let last : nat_lt class.0 (length header.classes.classes) ≡ true =
+        (and_true (slice_index_or frames lane false && nat_lt var (slice_index vars lane)) (nat_lt class.0 (length header.classes.classes))
+        h).1 in
         grind (arith, nat_tests, last)
     go what h = tt
 
-framed_classes : (vars : List ℕ) (header : Header) (frames : List Bool) (lines : List Line) → are_framed vars (length header.classes.classes) (length header.fields) frames lines ≡ true → AllByRecursion (λ l. HasClass header l.cmd) lines
+framed_classes : (vars : List ℕ) (header : Header) (frames : List Bool) (lines : List Line)
+    → are_framed vars (length header.classes.classes) (length header.fields) frames lines ≡ true → AllByRecursion (λ l. HasClass header l.cmd) lines
 unfolding are_framed
 framed_classes vars header frames [] h = tt
 framed_classes vars header frames (l ∷ lines) h =
     let parts = and_true (frame.fits vars (length header.classes.classes) (length header.fields) frames l.cmd) _ h in
     (fits_class vars header frames l.cmd parts.0, framed_classes vars header (frame.frames_after frames l.cmd) lines parts.1)
 
-outcome_played : OneText → (z : Sizes) (budget : ℕ) (limits : Limits) (script : Script) (history : List Entry) (had has : Option (List ℕ)) → IsPlayable limits script → Played z budget (header_of script) script.lines history had has → Gained had has (outcome z (header_of script) script.lines)
+outcome_played : OneText → (z : Sizes) (budget : ℕ) (limits : Limits) (script : Script) (history : List Entry) (had has : Option (List ℕ))
+    → IsPlayable limits script → Played z budget (header_of script) script.lines history had has
+    → Gained had has (outcome z (header_of script) script.lines)
 outcome_played law z budget limits script history had has can h =
     subst (Gained had has)
-    (law z budget (header_of script) script.lines h.pieces h.replies h.last can.classes can.at_once (framed_classes script.vars (header_of script) _ script.lines can.framed) (subst (Legal z) h.cut h.legal) h.plays)
+    (law z budget (header_of script) script.lines h.pieces h.replies h.last can.classes can.at_once
+    (framed_classes script.vars (header_of script) _ script.lines can.framed) (subst (Legal z) h.cut h.legal) h.plays)
     h.put
 
-pub outcome_of_run : OneText → (w : Words) (how : Status) (left : Option (List ℕ)) (script : Script) (r : Option Run) (had has : Option (List ℕ)) (count : ℕ) → IsPlayable (limits_in w.shape) script → IsScript (limits_in w.shape) left script → HasRun how r → PlayedAs w how script r had has count → OnDone how (WritesOutcome w.shape left had has)
+pub outcome_of_run : OneText
+    → (w : Words) (how : Status) (left : Option (List ℕ)) (script : Script) (r : Option Run) (had has : Option (List ℕ)) (count : ℕ)
+    → IsPlayable (limits_in w.shape) script → IsScript (limits_in w.shape) left script → HasRun how r → PlayedAs w how script r had has count
+    → OnDone how (WritesOutcome w.shape left had has)
 outcome_of_run law w status.Ok left script None had has count can is there h = absurd (there refl)
-outcome_of_run law w status.Ok left script (Some engine) had has count can is there h = record { script = script; read = is; gained = outcome_played law (sizes_of w.shape) w.slice (limits_in w.shape) script _ had has can h.0 }
+outcome_of_run law w status.Ok left script (Some engine) had has count can is there h =
+    record { script = script; read = is; gained = outcome_played law (sizes_of w.shape) w.slice (limits_in w.shape) script _ had has can h.0 }
 outcome_of_run law w status.Usage left script r had has count can is there h = tt
 outcome_of_run law w (status.Script fault) left script r had has count can is there h = tt
 outcome_of_run law w status.ReadFault left script r had has count can is there h = tt
 outcome_of_run law w status.WriteFault left script r had has count can is there h = tt
 outcome_of_run law w status.Memory left script r had has count can is there h = tt
 
-ends_early : (w : Words) (left : Option (List ℕ)) (script : Script) (engine : Run) (had has : Option (List ℕ)) (count : ℕ) → IsScript (limits_in w.shape) left script → Stopped (sizes_of w.shape) w.slice (header_of script) script.lines (history_of engine) had has count → EndsEarly w left had has count engine
+ends_early : (w : Words) (left : Option (List ℕ)) (script : Script) (engine : Run) (had has : Option (List ℕ)) (count : ℕ)
+    → IsScript (limits_in w.shape) left script → Stopped (sizes_of w.shape) w.slice (header_of script) script.lines (history_of engine) had has count
+    → EndsEarly w left had has count engine
 ends_early w left script engine had has count is h = record { script = script; read = is; stopped = h }
 
-pub early_of : (w : Words) (how : Status) (left : Option (List ℕ)) (script : Script) (r : Option Run) (had has : Option (List ℕ)) (count : ℕ) → IsScript (limits_in w.shape) left script → PlayedAs w how script r had has count → OnStopped how r (EndsEarly w left had has count)
+pub early_of : (w : Words) (how : Status) (left : Option (List ℕ)) (script : Script) (r : Option Run) (had has : Option (List ℕ)) (count : ℕ)
+    → IsScript (limits_in w.shape) left script → PlayedAs w how script r had has count → OnStopped how r (EndsEarly w left had has count)
 early_of w status.Ok left script r had has count is h = tt
 early_of w status.Usage left script r had has count is h = tt
 early_of w (status.Script fault) left script r had has count is h = tt
@@ -249,11 +269,13 @@ completes_played status.WriteFault before now h quiet = absurd (quiet h)
 completes_played status.Memory before now h quiet = inr refl
 
 -- where none was read of an input that is one, there was a fault of the source, or no memory
-pub completes_unread : (name : ShapeName) (limits : Limits) (how : Status) (left rest : Option (List ℕ)) (before now : ℕ) → limits ≡ limits_in name → Refuses limits left rest before now how → TellsScript name left → ¬ Rose before now → (how ≡ status.Ok) ⊎ (how ≡ status.Memory)
+pub completes_unread : (name : ShapeName) (limits : Limits) (how : Status) (left rest : Option (List ℕ)) (before now : ℕ) → limits ≡ limits_in name
+    → Refuses limits left rest before now how → TellsScript name left → ¬ Rose before now → (how ≡ status.Ok) ⊎ (how ≡ status.Memory)
 completes_unread name limits status.Ok left rest before now are h told quiet = inl refl
 completes_unread name limits status.Usage left rest before now are h told quiet = absurd h
 completes_unread name limits (status.Script fault) None rest before now are h told quiet = absurd told
-completes_unread name limits (status.Script fault) (Some input) rest before now are h told quiet = absurd (not_both input limits told.0 fault (rw are told.1) (ap (λ (xs : List ℕ). fault_of xs limits) h.0.told ∙ h.0.is))
+completes_unread name limits (status.Script fault) (Some input) rest before now are h told quiet =
+    absurd (not_both input limits told.0 fault (rw are told.1) (ap (λ (xs : List ℕ). fault_of xs limits) h.0.told ∙ h.0.is))
 completes_unread name limits status.ReadFault left rest before now are h told quiet = absurd (quiet h)
 completes_unread name limits status.WriteFault left rest before now are h told quiet = absurd h
 completes_unread name limits status.Memory left rest before now are h told quiet = inr refl
@@ -262,7 +284,8 @@ completes_unread name limits status.Memory left rest before now are h told quiet
 front_fault : (input : List ℕ) (limits : Limits) → fault_of (take 16777217 input) limits ≡ fault_of input limits
 front_fault input limits = go (read_of input (take 16777217 input) limits refl)
   where
-    go : (take 16777217 input ≡ input) ⊎ ((nat_lt 16777216 (length (take 16777217 input)) ≡ true) × (nat_lt 16777216 (length input) ≡ true)) → fault_of (take 16777217 input) limits ≡ fault_of input limits
+    go : (take 16777217 input ≡ input) ⊎ ((nat_lt 16777216 (length (take 16777217 input)) ≡ true) × (nat_lt 16777216 (length input) ≡ true))
+        → fault_of (take 16777217 input) limits ≡ fault_of input limits
     go (inl same) = ap (λ (bytes : List ℕ). fault_of bytes limits) same
     go (inr (long, longer)) = long_fault (take 16777217 input) limits long ∙ sym (long_fault input limits longer)
 
@@ -271,18 +294,23 @@ input_fault input bytes limits (inl same) = ap (λ (xs : List ℕ). fault_of xs 
 input_fault input bytes limits (inr same) = ap (λ (xs : List ℕ). fault_of xs limits) same ∙ front_fault input limits
 
 -- a script has no fault to be named
-pub names_of_script : (name : ShapeName) (how : Status) (left : Option (List ℕ)) (script : Script) (before now : ℕ) → IsScript (limits_in name) left script → WritesFault before now how → NamesFault name left how
+pub names_of_script : (name : ShapeName) (how : Status) (left : Option (List ℕ)) (script : Script) (before now : ℕ)
+    → IsScript (limits_in name) left script → WritesFault before now how → NamesFault name left how
 names_of_script name how left script before now is h = record { has = λ fault said. absurd (subst (WritesFault before now) said h); exactly = exactly left is }
   where
     exactly : (left : Option (List ℕ)) → IsScript (limits_in name) left script → IfSome left (NamesExactly name how)
     exactly None is = tt
     exactly (Some input) is = λ bytes fault same. (
       (λ said. absurd (subst (WritesFault before now) said h)),
-      (λ has. absurd (not_both input (limits_in name) script fault (ap (λ (xs : List ℕ). script_of xs (limits_in name)) is.told ∙ is.is) (sym (input_fault input bytes (limits_in name) same) ∙ has.1))),
+      (λ has.
+          absurd
+          (not_both input (limits_in name) script fault (ap (λ (xs : List ℕ). script_of xs (limits_in name)) is.told ∙ is.is)
+          (sym (input_fault input bytes (limits_in name) same) ∙ has.1))),
     )
 
 -- what was not read has the fault that is named
-pub names_unread : (name : ShapeName) (limits : Limits) (how : Status) (left rest : Option (List ℕ)) (before now : ℕ) → limits ≡ limits_in name → Refuses limits left rest before now how → NamesFault name left how
+pub names_unread : (name : ShapeName) (limits : Limits) (how : Status) (left rest : Option (List ℕ)) (before now : ℕ) → limits ≡ limits_in name
+    → Refuses limits left rest before now how → NamesFault name left how
 names_unread name limits how left rest before now are h = record { has = has how h; exactly = exactly how left h }
   where
     has : (how : Status) → Refuses limits left rest before now how → (fault : ScriptErr) → how ≡ status.Script fault → HasFault (limits_in name) left fault
@@ -298,7 +326,9 @@ names_unread name limits how left rest before now are h = record { has = has how
     exactly status.Ok (Some input) h = absurd h
     exactly status.Usage (Some input) h = absurd h
     exactly (status.Script told) (Some input) h = λ bytes fault same.
-        let is : fault_of bytes (limits_in name) ≡ Some told = input_fault input bytes (limits_in name) same ∙ ap (λ (l : Limits). fault_of input l) (sym are) ∙ ap (λ (xs : List ℕ). fault_of xs limits) h.0.told ∙ h.0.is in
+        let is : fault_of bytes (limits_in name) ≡ Some told =
+        input_fault input bytes (limits_in name) same ∙ ap (λ (l : Limits). fault_of input l) (sym are)
+        ∙ ap (λ (xs : List ℕ). fault_of xs limits) h.0.told ∙ h.0.is in
         ((λ said. let e : told ≡ fault = cc in (((λ x. cc), (λ x. cc)), is ∙ ap (λ (f : ScriptErr). Some f) e)), (λ has. let e : told ≡ fault = cc in ap (λ (f : ScriptErr). status.Script f) e))
     exactly status.ReadFault (Some input) h = λ bytes fault same. ((λ said. absurd cc), (λ has. absurd (has.0.0 refl)))
     exactly status.WriteFault (Some input) h = absurd h

@@ -1,5 +1,5 @@
 -- What the variables show, as they are bound and as frames end.
-use Rattle.std.proofs.Common.{◌≡◌, ℕ, ◌+◌, ◌<◌, ◌≤◌, ◌==◌, Bool, true, false, cond, List, [], ◌∷◌, ◌++◌, append-nil, drop, length, map, get_or, replicate, set, slice_get, refl, sym, ap, ◌∙◌, subst, arith, zero, suc, Option, Some, None, IfSome, option_map}
+use Rattle.std.proofs.Common.{◌≡◌, ℕ, ◌+◌, ◌<◌, ◌≤◌, ◌==◌, Bool, true, false, cond, List, [], ◌∷◌, ◌++◌, drop, length, replicate, set, slice_get, refl, sym, ap, ◌∙◌, subst, arith, zero, suc, Option, Some, None, IfSome, option_map}
 use Rattle.std.specs.Option.{option_and_then}
 use Rattle.std.specs.Option.{option_map_or}
 use Rattle.std.specs.Prelude.{slice_index}
@@ -9,8 +9,8 @@ use Rattle.std.proofs.lemmas.List.{length-map, length-replicate}
 use Rattle.world_model.specs.NameLists.{set_at}
 use Rattle.world_model.specs.Engines.{Holdings, KeepsHeld, KeepsOthers}
 use Rattle.world_play.specs.Types.{Name, Ref}
-use Rattle.world_play.specs.Bindings.{Bindings, no_bindings, bound, ended}
-use Rattle.world_play.specs.Variables.{Standing, unbound, with_ref, without_refs, HasVariable, shown, AreHeld, lane_ref, ref_of, numbers_of}
+use Rattle.world_play.specs.Bindings.{no_bindings, bound, ended}
+use Rattle.world_play.specs.Variables.{Standing, unbound, with_ref, without_refs, shown, AreHeld, lane_ref, ref_of, numbers_of}
 use Rattle.world_play.specs.Slots.{slot_of, live, AreDated}
 use Rattle.world_play.specs.declared.variables.Bound.{Bound}
 use Rattle.world_play.specs.declared.variables.LaneVariables.{LaneVariables}
@@ -78,7 +78,8 @@ live_slot frame None = refl
 live_slot frame (Some at) = let t : (frame == frame) ≡ true = eq-eqb frame frame refl in rw t refl
 
 -- what a lane's variables stand for after one was bound
-bind_ref : (l new : LaneVariables) (var : ℕ) (to : Option Ref) (v : ℕ) → new.frame ≡ l.frame → new.slots.items ≡ set l.slots.items var (slot_of l.frame to) → var < length l.slots.items → lane_ref new v ≡ cond (v == var) to (lane_ref l v)
+bind_ref : (l new : LaneVariables) (var : ℕ) (to : Option Ref) (v : ℕ) → new.frame ≡ l.frame
+    → new.slots.items ≡ set l.slots.items var (slot_of l.frame to) → var < length l.slots.items → lane_ref new v ≡ cond (v == var) to (lane_ref l v)
 bind_ref l new var to v frame slots h =
     ap (λ (f : ℕ). option_and_then (live f) (slice_get new.slots.items v)) frame
     ∙ ap (λ (s : List (Option Bound)). option_and_then (live l.frame) (slice_get s v)) slots
@@ -111,7 +112,8 @@ unfolding AreFresh
 fresh_none = tt
 
 -- one more fresh lane
-pub fresh_more : (lanes : List LaneVariables) (counts : List ℕ) (lane : LaneVariables) (count : ℕ) → AreFresh lanes counts → lane.slots.items ≡ replicate count None → AreFresh (lanes ++ lane ∷ []) (counts ++ count ∷ [])
+pub fresh_more : (lanes : List LaneVariables) (counts : List ℕ) (lane : LaneVariables) (count : ℕ) → AreFresh lanes counts
+    → lane.slots.items ≡ replicate count None → AreFresh (lanes ++ lane ∷ []) (counts ++ count ∷ [])
 unfolding AreFresh
 fresh_more [] [] lane count h slots = (slots, tt)
 fresh_more [] (c ∷ counts) lane count h slots = absurd h
@@ -169,7 +171,8 @@ own_ref lanes lane l var e = ap (option_and_then (λ x. lane_ref x var)) e
 ref_set : (lanes : List LaneVariables) (lane : ℕ) (new : LaneVariables) (j var : ℕ) → lane < length lanes → ref_of (set lanes lane new) j var ≡ cond (j == lane) (lane_ref new var) (ref_of lanes j var)
 ref_set lanes lane new j var h = ap (option_and_then (λ l. lane_ref l var)) (slice_get-set lanes lane j new h) ∙ then_cond (λ l. lane_ref l var) (j == lane) new (slice_get lanes j)
 
-numbers_set : (lanes : List LaneVariables) (lane : ℕ) (l new : LaneVariables) → slice_get lanes lane ≡ Some l → length new.slots.items ≡ length l.slots.items → numbers_of (set lanes lane new) ≡ numbers_of lanes
+numbers_set : (lanes : List LaneVariables) (lane : ℕ) (l new : LaneVariables) → slice_get lanes lane ≡ Some l
+    → length new.slots.items ≡ length l.slots.items → numbers_of (set lanes lane new) ≡ numbers_of lanes
 numbers_set [] lane l new e len = absurd cc
 numbers_set (x ∷ lanes) zero l new e len =
     let same : x ≡ l = cc in
@@ -177,22 +180,33 @@ numbers_set (x ∷ lanes) zero l new e len =
 numbers_set (x ∷ lanes) (suc lane) l new e len = λ i. length x.slots.items ∷ numbers_set lanes lane l new e len i
 
 -- one lane's variables are others
-set_standing : (lanes : List LaneVariables) (lane : ℕ) (l new : LaneVariables) (own : ℕ → Option Ref) → slice_get lanes lane ≡ Some l → lane < length lanes → length new.slots.items ≡ length l.slots.items → ((v : ℕ) → lane_ref new v ≡ own v)
+set_standing : (lanes : List LaneVariables) (lane : ℕ) (l new : LaneVariables) (own : ℕ → Option Ref) → slice_get lanes lane ≡ Some l
+    → lane < length lanes → length new.slots.items ≡ length l.slots.items → ((v : ℕ) → lane_ref new v ≡ own v)
     → shows (set lanes lane new) ≡ record { refs = set_at (ref_of lanes) lane own; counts = numbers_of lanes }
-set_standing lanes lane l new own e h len refs = λ i. record { refs = λ j v. (ref_set lanes lane new j v h ∙ ap (λ (o : Option Ref). cond (j == lane) o (ref_of lanes j v)) (refs v) ∙ at j v (j == lane)) i; counts = numbers_set lanes lane l new e len i }
+set_standing lanes lane l new own e h len refs =
+    λ i.
+    record {
+      refs =
+          λ j v. (ref_set lanes lane new j v h ∙ ap (λ (o : Option Ref). cond (j == lane) o (ref_of lanes j v)) (refs v) ∙ at j v (j == lane)) i;
+      counts = numbers_set lanes lane l new e len i;
+    }
   where
     at : (j v : ℕ) (b : Bool) → cond b (own v) (ref_of lanes j v) ≡ cond {A = ℕ → Option Ref} b own (ref_of lanes j) v
     at j v true = refl
     at j v false = refl
 
 -- a variable is bound
-pub bind_standing : (lanes : List LaneVariables) (lane var : ℕ) (l new : LaneVariables) (to : Option Ref) → slice_get lanes lane ≡ Some l → lane < length lanes → new.frame ≡ l.frame → new.slots.items ≡ set l.slots.items var (slot_of l.frame to) → length new.slots.items ≡ length l.slots.items → var < length l.slots.items
+pub bind_standing : (lanes : List LaneVariables) (lane var : ℕ) (l new : LaneVariables) (to : Option Ref) → slice_get lanes lane ≡ Some l
+    → lane < length lanes → new.frame ≡ l.frame → new.slots.items ≡ set l.slots.items var (slot_of l.frame to)
+    → length new.slots.items ≡ length l.slots.items → var < length l.slots.items
     → shows (set lanes lane new) ≡ with_ref (shows lanes) lane var to
 bind_standing lanes lane var l new to e h frame slots len inside =
-    set_standing lanes lane l new (set_at (ref_of lanes lane) var to) e h len (λ v. bind_ref l new var to v frame slots inside ∙ ap (λ (o : Option Ref). cond (v == var) to o) (sym (own_ref lanes lane l v e)))
+    set_standing lanes lane l new (set_at (ref_of lanes lane) var to) e h len
+    (λ v. bind_ref l new var to v frame slots inside ∙ ap (λ (o : Option Ref). cond (v == var) to o) (sym (own_ref lanes lane l v e)))
 
 -- a frame ends
-pub end_standing : (lanes : List LaneVariables) (lane : ℕ) (l new : LaneVariables) → slice_get lanes lane ≡ Some l → lane < length lanes → length new.slots.items ≡ length l.slots.items → ((v : ℕ) → lane_ref new v ≡ None)
+pub end_standing : (lanes : List LaneVariables) (lane : ℕ) (l new : LaneVariables) → slice_get lanes lane ≡ Some l → lane < length lanes
+    → length new.slots.items ≡ length l.slots.items → ((v : ℕ) → lane_ref new v ≡ None)
     → shows (set lanes lane new) ≡ without_refs (shows lanes) lane
 end_standing lanes lane l new e h len none = set_standing lanes lane l new (λ v. None) e h len none
 

@@ -57,7 +57,8 @@ pub by_no_lane : (p : Pass) (acts : List Act) → IsNoLane p → AllByRecursion 
 by_no_lane p [] none = tt
 by_no_lane p (a ∷ acts) none = (none, by_no_lane p acts none)
 
-pub no_lane_append : (xs ys : List Entry) → AllByRecursion (λ (e : Entry). IsNoLane e.pass) xs → AllByRecursion (λ (e : Entry). IsNoLane e.pass) ys → AllByRecursion (λ (e : Entry). IsNoLane e.pass) (xs ++ ys)
+pub no_lane_append : (xs ys : List Entry) → AllByRecursion (λ (e : Entry). IsNoLane e.pass) xs → AllByRecursion (λ (e : Entry). IsNoLane e.pass) ys
+    → AllByRecursion (λ (e : Entry). IsNoLane e.pass) (xs ++ ys)
 no_lane_append [] ys a b = b
 no_lane_append (x ∷ xs) ys a b = (a.0, no_lane_append xs ys a.1 b)
 

@@ -52,7 +52,9 @@ plain_phase Marking = record { none = refl }
 plain_phase Gathering = record { none = refl }
 
 plain_name : (n : Name) → IsPlain (name_text n)
-plain_name n = plain_append (codes " ") _ (record { none = refl }) (plain_append (decimal n.lane) _ (plain_decimal n.lane) (plain_append (codes ":") _ (record { none = refl }) (plain_decimal n.count)))
+plain_name n =
+    plain_append (codes " ") _ (record { none = refl })
+    (plain_append (decimal n.lane) _ (plain_decimal n.lane) (plain_append (codes ":") _ (record { none = refl }) (plain_decimal n.count)))
 
 plain_list : (names : List Name) → IsPlain (flat_map name_text names)
 plain_list [] = record { none = refl }
@@ -128,7 +130,10 @@ is_line classes (reply.Is lane got) plain = before (decimal lane) _ (plain_decim
 is_line classes (reply.IsNumber lane got) plain = before (decimal lane) _ (plain_decimal lane) (words (codes " is ") _ refl (before (decimal got) _ (plain_decimal got) ends))
 is_line classes (reply.Object lane n class) plain =
     before (decimal lane) _ (plain_decimal lane)
-    (words (codes " object ") _ refl (before (decimal n.lane) _ (plain_decimal n.lane) (words (codes ":") _ refl (before (decimal n.count) _ (plain_decimal n.count) (words (codes " ") _ refl (before (class_at classes class).name _ plain ends))))))
+    (words (codes " object ") _ refl
+    (before (decimal n.lane) _ (plain_decimal n.lane)
+    (words (codes ":") _ refl
+    (before (decimal n.count) _ (plain_decimal n.count) (words (codes " ") _ refl (before (class_at classes class).name _ plain ends))))))
 is_line classes (reply.NoField lane) plain = before (decimal lane) _ (plain_decimal lane) (words (codes " no field") (codes "\n") refl ends)
 is_line classes (reply.WrongKind lane) plain = before (decimal lane) _ (plain_decimal lane) (words (codes " wrong kind") (codes "\n") refl ends)
 is_line classes (reply.NoElement lane) plain = before (decimal lane) _ (plain_decimal lane) (words (codes " no element") (codes "\n") refl ends)

@@ -1,12 +1,11 @@
 -- A script is played line by line.
-use Rattle.std.proofs.Common.{◌≡◌, ℕ, ◌+◌, ◌<◌, Bool, true, false, List, [], ◌∷◌, ◌++◌, append_assoc, append-nil, flat_map, length, take, drop, drop-cons, get_or, set, replicate, ◌==◌, cond, zero, suc, add-one, refl, sym, ap, ◌∙◌, subst, arith, inl, inr, ◌⊎◌, Option}
-use Rattle.std.specs.Prelude.{nat_lt, slice_index, Result, IfOk, OnErr}
+use Rattle.std.proofs.Common.{◌≡◌, ℕ, ◌+◌, ◌<◌, Bool, true, false, List, [], ◌∷◌, ◌++◌, append-nil, length, take, drop, drop-cons, get_or, set, replicate, ◌==◌, cond, zero, suc, add-one, refl, sym, ap, ◌∙◌, subst, arith, inl, inr, ◌⊎◌, Option}
+use Rattle.std.specs.Prelude.{nat_lt, slice_index}
 use Rattle.std.proofs.lemmas.Bool.Decides.{nat_tests}
 use Rattle.std.proofs.lemmas.List.{set-get_or, length-set, length-take, take-append-drop}
 use Rattle.std.proofs.lemmas.Grind.{flat_map-append}
 use Rattle.world_play.specs.Header.{Header}
 use Rattle.class_schema.specs.Class.{Class}
-use Rattle.world_model.specs.NameLists.{set_at}
 use Rattle.world_play.specs.Text.{text_of}
 use Rattle.world_model.specs.Sizes.{Sizes}
 use Rattle.world_model.specs.State.{State, beginning}
@@ -23,22 +22,25 @@ use Rattle.level_script.specs.Frames as frame
 use Rattle.level_script.specs.Frames.{opened_after, fits_lane, are_framed}
 use Rattle.world_play.specs.Bindings.{Bindings, no_bindings}
 use Rattle.world_play.specs.Plays.{TurnBy, IsPart, Plays, text, entries_of, fits, frames_by, are_fit}
-use Rattle.world_play.specs.Streams.{Gained, GainedStart, IsStart}
+use Rattle.world_play.specs.Streams.{Gained, GainedStart}
 use Rattle.world_play.specs.Variables.{Standing, shown, AreHeld}
 use Rattle.world_play.specs.Turns.{frames_of, AreMade, IsReady, LaneDid, Turned, IsPiece, Broken, Stops, Unanswered, Stopped}
 use Rattle.world_play.specs.Stages.{Collects, CollectsSome}
 use Rattle.world_play.proofs.Keeping.{held_on}
-use Rattle.world_play.proofs.Turning.{Leaves, lane_leaves, fits_class, made_on}
+use Rattle.world_play.proofs.Turning.{lane_leaves, fits_class, made_on}
 use Rattle.world_play.proofs.Streams.{gained_none, gained_both}
 use Rattle.world_play.proofs.Lines.{start_none}
 
 -- ---- one command
 
 -- a command of a lane was played
-pub lane_turned : (z : Sizes) (budget : ℕ) (header : Header) (old new : List Entry) (held holds : Holdings) (before now : Standing) (lane : ℕ) (what : LaneCmd) (r : Reply) → IsReady z old held before header (cmd.Lane lane what)
+pub lane_turned : (z : Sizes) (budget : ℕ) (header : Header) (old new : List Entry) (held holds : Holdings) (before now : Standing) (lane : ℕ)
+    (what : LaneCmd) (r : Reply) → IsReady z old held before header (cmd.Lane lane what)
     → LaneDid header old new (shown before) (shown now) lane what r → AreHeld holds now → now.counts ≡ before.counts → Turned z budget header old new holds before now (cmd.Lane lane what) r
 lane_turned z budget header old new held holds before now lane what r ready did keeps counts =
-    let leaves = lane_leaves header (state_of old) (shown before) (shown now) lane what did.piece r (fits_class z.lanes before.counts header (frames_of (after old)) (cmd.Lane lane what) ready.fit) ready.made did.turn in
+    let leaves =
+    lane_leaves header (state_of old) (shown before) (shown now) lane what did.piece r
+    (fits_class z.lanes before.counts header (frames_of (after old)) (cmd.Lane lane what) ready.fit) ready.made did.turn in
     let left : state_of new ≡ run (state_of old) did.piece = ap state_of did.grown ∙ run-append beginning old did.piece in
     record {
       piece = did.piece;
@@ -52,7 +54,8 @@ lane_turned z budget header old new held holds before now lane what r ready did 
     }
 
 -- a command of the collector was played
-pub gc_turned : (z : Sizes) (budget : ℕ) (header : Header) (old new : List Entry) (before now : Holdings) (variables : Standing) (what : GcCmd) (r : Reply) → IsReady z old before variables header (cmd.Gc what)
+pub gc_turned : (z : Sizes) (budget : ℕ) (header : Header) (old new : List Entry) (before now : Holdings) (variables : Standing) (what : GcCmd)
+    (r : Reply) → IsReady z old before variables header (cmd.Gc what)
     → Collects z budget header old new before now what r → Turned z budget header old new now variables variables (cmd.Gc what) r
 gc_turned z budget header old new before now variables what r ready h = record {
   piece = h.piece;
@@ -66,7 +69,8 @@ gc_turned z budget header old new before now variables what r ready h = record {
 }
 
 -- so was a part of it
-pub gc_broken : (z : Sizes) (budget : ℕ) (header : Header) (old new : List Entry) (names : Bindings) (what : GcCmd) → CollectsSome z budget old new what → Broken z budget header old new names (cmd.Gc what)
+pub gc_broken : (z : Sizes) (budget : ℕ) (header : Header) (old new : List Entry) (names : Bindings) (what : GcCmd)
+    → CollectsSome z budget old new what → Broken z budget header old new names (cmd.Gc what)
 gc_broken z budget header old new names what h = record { part = h.part; grown = h.grown; made = inl h.made; legal = h.legal }
 
 -- ---- line after line
@@ -106,7 +110,8 @@ stops_none budget header s names [] = (refl, refl)
 stops_none budget header s names (l ∷ ls) = inl (no_part budget s l.cmd, refl)
 
 -- a line of which some calls were made, or all, and whose reply was not put
-pub breaks : (z : Sizes) (budget : ℕ) (header : Header) (old new : List Entry) (names : Bindings) (l : Line) (held : Option (List ℕ)) → Broken z budget header old new names l.cmd → Unanswered z budget header old new names l held held
+pub breaks : (z : Sizes) (budget : ℕ) (header : Header) (old new : List Entry) (names : Bindings) (l : Line) (held : Option (List ℕ))
+    → Broken z budget header old new names l.cmd → Unanswered z budget header old new names l held held
 breaks z budget header old new names l held h = record { part = h.part; some = []; grown = h.grown; stops = go h.made; legal = h.legal; put = gained_none held }
   where
     go : IsPart budget (state_of old) l.cmd h.part ⊎ IsPiece budget header (state_of old) names l.cmd h.part → Stops budget header (state_of old) names (l ∷ []) h.part []
@@ -114,7 +119,8 @@ breaks z budget header old new names l held h = record { part = h.part; some = [
     go (inr (r, new, turn)) = inr (r, new, turn, start_none header.classes.classes r)
 
 -- a line all of whose calls were made
-pub turned_broken : (z : Sizes) (budget : ℕ) (header : Header) (old new : List Entry) (holds : Holdings) (before now : Standing) (what : Cmd) (r : Reply) → Legal z new → Turned z budget header old new holds before now what r → Broken z budget header old new (shown before) what
+pub turned_broken : (z : Sizes) (budget : ℕ) (header : Header) (old new : List Entry) (holds : Holdings) (before now : Standing) (what : Cmd)
+    (r : Reply) → Legal z new → Turned z budget header old new holds before now what r → Broken z budget header old new (shown before) what
 turned_broken z budget header old new holds before now what r legal t = record { part = t.piece; grown = t.grown; made = inr (r, shown now, t.turn); legal = legal }
 
 -- a line whose reply was put in part
@@ -130,7 +136,8 @@ puts_part z budget header old new holds before now l r had has legal t g = recor
 }
 
 -- the first lines were played, and the next one was not answered
-pub stopped_at : (z : Sizes) (budget : ℕ) (header : Header) (lines : List Line) (i : ℕ) (d : Line) (pieces : List (List Entry)) (replies : List Reply) (names : Bindings) (old new : List Entry) (had mid has : Option (List ℕ)) (count : ℕ) → i < length lines
+pub stopped_at : (z : Sizes) (budget : ℕ) (header : Header) (lines : List Line) (i : ℕ) (d : Line) (pieces : List (List Entry)) (replies : List Reply)
+    (names : Bindings) (old new : List Entry) (had mid has : Option (List ℕ)) (count : ℕ) → i < length lines
     → Plays budget header beginning no_bindings (take i lines) pieces replies names → old ≡ entries_of pieces → Gained had mid (text header.classes.classes replies) → count ≡ i
     → Unanswered z budget header old new names (get_or lines i d) mid has → Stopped z budget header lines new had has count
 stopped_at z budget header lines i d pieces replies names old new had mid has count inside plays cut put number h = record {
@@ -151,7 +158,8 @@ stopped_at z budget header lines i d pieces replies names old new had mid has co
 }
 
 -- nothing was played
-pub stopped_first : (z : Sizes) (budget : ℕ) (header : Header) (lines : List Line) (history : List Entry) (held : Option (List ℕ)) (count : ℕ) → history ≡ [] → count ≡ 0 → Stopped z budget header lines history held held count
+pub stopped_first : (z : Sizes) (budget : ℕ) (header : Header) (lines : List Line) (history : List Entry) (held : Option (List ℕ)) (count : ℕ)
+    → history ≡ [] → count ≡ 0 → Stopped z budget header lines history held held count
 stopped_first z budget header lines history held count none zero_lines = record {
   whole = [];
   rest = lines;
@@ -169,7 +177,9 @@ stopped_first z budget header lines history held count none zero_lines = record 
   number = zero_lines;
 }
 
-pub fit_first : (lanes : ℕ) (vars : List ℕ) (header : Header) (opened : ℕ → Bool) (l : Line) (ls : List Line) → are_fit lanes vars header opened (l ∷ ls) ≡ true → (fits lanes vars header opened l.cmd ≡ true) × (are_fit lanes vars header (frames_by opened l.cmd) ls ≡ true)
+pub fit_first : (lanes : ℕ) (vars : List ℕ) (header : Header) (opened : ℕ → Bool) (l : Line) (ls : List Line)
+    → are_fit lanes vars header opened (l ∷ ls) ≡ true
+    → (fits lanes vars header opened l.cmd ≡ true) × (are_fit lanes vars header (frames_by opened l.cmd) ls ≡ true)
 unfolding are_fit
 fit_first lanes vars header opened l ls e = and_true (fits lanes vars header opened l.cmd) (are_fit lanes vars header (frames_by opened l.cmd) ls) e
 
@@ -190,25 +200,31 @@ get_or-set (x ∷ xs) (suc i) (suc j) y h = let t : (suc j == suc i) ≡ (j == i
 abbrev pub SameFrames : List Bool → (ℕ → Bool) → Type 0
 SameFrames frames opened = (lane : ℕ) → get_or frames lane false ≡ opened lane
 
-after_lane : (frames : List Bool) (opened : ℕ → Bool) (lane : ℕ) (what : LaneCmd) → lane < length frames → SameFrames frames opened → SameFrames (set frames lane (opened_after what (get_or frames lane false))) (frames_by opened (cmd.Lane lane what))
+after_lane : (frames : List Bool) (opened : ℕ → Bool) (lane : ℕ) (what : LaneCmd) → lane < length frames → SameFrames frames opened
+    → SameFrames (set frames lane (opened_after what (get_or frames lane false))) (frames_by opened (cmd.Lane lane what))
 after_lane frames opened lane lane_cmd.Open h same j = get_or-set frames lane j true h ∙ ap (λ (b : Bool). cond (j == lane) true b) (same j)
 after_lane frames opened lane lane_cmd.Close h same j = get_or-set frames lane j false h ∙ ap (λ (b : Bool). cond (j == lane) false b) (same j)
 after_lane frames opened lane what h same j = ap (λ (fs : List Bool). get_or fs j false) (set-get_or frames lane false) ∙ same j
 
 -- a line that is framed by list fits by number, and the frames after it are alike
-fit_step : (vars : List ℕ) (header : Header) (lanes : ℕ) (frames : List Bool) (opened : ℕ → Bool) (what : Cmd) → length frames ≡ lanes → SameFrames frames opened → frame.fits vars (length header.classes.classes) (length header.fields) frames what ≡ true
+fit_step : (vars : List ℕ) (header : Header) (lanes : ℕ) (frames : List Bool) (opened : ℕ → Bool) (what : Cmd) → length frames ≡ lanes
+    → SameFrames frames opened → frame.fits vars (length header.classes.classes) (length header.fields) frames what ≡ true
     → (fits lanes vars header opened what ≡ true) × SameFrames (frame.frames_after frames what) (frames_by opened what) × (length (frame.frames_after frames what) ≡ lanes)
 fit_step vars header lanes frames opened (cmd.Lane lane what) count same h =
     let parts = and_true (nat_lt lane (length frames)) _ h in
     let there : nat_lt lane (length frames) ≡ true = parts.0 in
     let inside : lane < length frames = grind (arith, nat_tests, there) in
     let first : nat_lt lane lanes ≡ true = grind (arith, nat_tests, inside, count) in
-    let second : fits_lane (slice_index vars lane) (length header.classes.classes) (length header.fields) (opened lane) what ≡ true = subst (λ (b : Bool). fits_lane (slice_index vars lane) (length header.classes.classes) (length header.fields) b what ≡ true) (same lane) parts.1 in
+    let second : fits_lane (slice_index vars lane) (length header.classes.classes) (length header.fields) (opened lane) what ≡ true =
+    subst (λ (b : Bool). fits_lane (slice_index vars lane) (length header.classes.classes) (length header.fields) b what ≡ true) (same lane)
+    parts.1 in
     (rw (first, second) refl, after_lane frames opened lane what inside same, length-set frames lane _ ∙ count)
 fit_step vars header lanes frames opened (cmd.Gc what) count same h = (h, same, count)
 
 -- lines that are framed by list fit by number
-pub framed_fit : (vars : List ℕ) (header : Header) (lanes : ℕ) (frames : List Bool) (opened : ℕ → Bool) (lines : List Line) → length frames ≡ lanes → SameFrames frames opened → are_framed vars (length header.classes.classes) (length header.fields) frames lines ≡ true → are_fit lanes vars header opened lines ≡ true
+pub framed_fit : (vars : List ℕ) (header : Header) (lanes : ℕ) (frames : List Bool) (opened : ℕ → Bool) (lines : List Line) → length frames ≡ lanes
+    → SameFrames frames opened → are_framed vars (length header.classes.classes) (length header.fields) frames lines ≡ true
+    → are_fit lanes vars header opened lines ≡ true
 unfolding are_framed are_fit
 framed_fit vars header lanes frames opened [] count same h = refl
 framed_fit vars header lanes frames opened (l ∷ lines) count same h =

@@ -25,7 +25,8 @@ unfoldable pub PurgesSome : ℕ → Header → ℕ → State → List (List Act)
 PurgesSome budget header bound s [] rest = rest ≡ bound
 PurgesSome budget header bound s (acts ∷ more) rest =
     (0 < left_of s.world) × (0 < bound)
-    × ((steps : ℕ) × (left : ℕ) × CallOf s Collector (act.PurgeGc (min budget bound) (purge.Ran steps left)) acts × AllByRecursion (AnswersBy header s.world) acts × PurgesSome budget header (bound - steps) (run s (by Collector acts)) more rest)
+    × ((steps : ℕ) × (left : ℕ) × CallOf s Collector (act.PurgeGc (min budget bound) (purge.Ran steps left)) acts
+    × AllByRecursion (AnswersBy header s.world) acts × PurgesSome budget header (bound - steps) (run s (by Collector acts)) more rest)
 
 some_more : (budget : ℕ) (header : Header) (bound : ℕ) (s : State) (purges : List (List Act)) (rest steps left : ℕ) (acts : List Act) → PurgesSome budget header bound s purges rest
     → 0 < left_of (run s (flat_map (by Collector) purges)).world → 0 < rest → PurgeEntries (min budget rest) (purge.Ran steps left) acts
@@ -57,7 +58,8 @@ unfolding PurgesSome PurgesAll
 some_all budget header bound s [] rest was (inl nothing) = inl nothing
 some_all budget header bound s [] rest was (inr spent) = inr (sym was ∙ spent)
 some_all budget header bound s (first ∷ purges) rest (a, b, (n, m, one, answers, others)) over =
-    let same : run s (by Collector first ++ flat_map (by Collector) purges) ≡ run (run s (by Collector first)) (flat_map (by Collector) purges) = run-append s (by Collector first) (flat_map (by Collector) purges) in
+    let same : run s (by Collector first ++ flat_map (by Collector) purges) ≡ run (run s (by Collector first)) (flat_map (by Collector) purges) =
+    run-append s (by Collector first) (flat_map (by Collector) purges) in
     (a, b, (n, m, one, answers, some_all budget header (bound - n) (run s (by Collector first)) purges rest others (subst (λ (u : State). (left_of u.world ≡ 0) ⊎ (rest ≡ 0)) same over)))
 
 -- ---- one purge more
@@ -84,7 +86,10 @@ module _ (z : Sizes) (mid new : List Entry) (budget : ℕ) (reply : Purged) (h :
 
   -- the last entry changes nothing of the world
   same_world : after new ≡ (run (state_of mid) (by Collector parts)).world
-  same_world = ap (λ (s : State). s.world) (state_after z mid new Collector (act.PurgeGc budget reply) h ∙ ap (run (state_of mid)) entries ∙ run-append (state_of mid) (by Collector parts) (by Collector last))
+  same_world =
+      ap (λ (s : State). s.world)
+      (state_after z mid new Collector (act.PurgeGc budget reply) h ∙ ap (run (state_of mid)) entries
+      ∙ run-append (state_of mid) (by Collector parts) (by Collector last))
 
   kept_world : OnlyRemovals (after mid) (run (state_of mid) (by Collector parts)).world
   kept_world = parts_keep (state_of mid) parts h.call.0.only
@@ -104,7 +109,8 @@ purge_leaves z mid new budget steps left h =
 pub never_gathering : (z : Sizes) (mid new : List Entry) (budget : ℕ) → Appends z mid new Collector (act.PurgeGc budget purge.Gathering) → (after mid).phase ≡ Idle → ⊥
 never_gathering z mid new budget h idle =
     let gathering = (halves z mid new budget purge.Gathering h).1.0.may in
-    let still : (run (state_of mid) (by Collector (parts z mid new budget purge.Gathering h))).world.phase ≡ Idle = ap (λ (w : World). w.phase) (kept_world z mid new budget purge.Gathering h) ∙ idle in
+    let still : (run (state_of mid) (by Collector (parts z mid new budget purge.Gathering h))).world.phase ≡ Idle =
+    ap (λ (w : World). w.phase) (kept_world z mid new budget purge.Gathering h) ∙ idle in
     cc
 
 -- ---- the purges so far
@@ -140,7 +146,9 @@ destroys_more z budget header old mid new bound rest b steps left e on h some mo
         some = some_more budget header bound (state_of old) on.purges rest steps left h.acts on.some (subst (λ (s : State). 0 < left_of s.world) state some) more
             (subst (λ (k : ℕ). PurgeEntries k (purge.Ran steps left) h.acts) e h.call.0) (subst (λ (s : State). AllByRecursion (AnswersBy header s.world) h.acts) state says);
         grown = h.grown ∙ ap (λ (es : List Entry). es ++ by Collector h.acts) on.grown ∙ append_assoc old (flat_map (by Collector) on.purges) (by Collector h.acts)
-            ∙ ap (λ (es : List Entry). old ++ es) (ap (λ (es : List Entry). flat_map (by Collector) on.purges ++ es) (sym (append-nil (by Collector h.acts))) ∙ sym (flat_map-append (by Collector) on.purges (h.acts ∷ [])));
+            ∙ ap (λ (es : List Entry). old ++ es)
+            (ap (λ (es : List Entry). flat_map (by Collector) on.purges ++ es) (sym (append-nil (by Collector h.acts)))
+            ∙ sym (flat_map-append (by Collector) on.purges (h.acts ∷ [])));
         found = ap (λ (w : World). w.found) leaves.world ∙ on.found;
         opened = ap (λ (w : World). w.opened) leaves.world ∙ on.opened;
         swept = record { legal = h.legal; idle = idle };
@@ -155,10 +163,14 @@ pub purge_less : (bound steps rest left b : ℕ) → steps ≤ bound → (steps 
 purge_less bound zero rest left b within early some more = let none : rest ≡ 0 = early (omega arith) in omega (arith, none)
 purge_less bound (suc k) rest left b within early some more = omega arith
 
-pub destroys_all : (z : Sizes) (budget : ℕ) (header : Header) (old mid : List Entry) (rest : ℕ) → DestroysOn z budget header old mid (103 * length (after old).found) rest → (left_of (after mid) ≡ 0) ⊎ (rest ≡ 0) → Destroys z budget header old mid
+pub destroys_all : (z : Sizes) (budget : ℕ) (header : Header) (old mid : List Entry) (rest : ℕ)
+    → DestroysOn z budget header old mid (103 * length (after old).found) rest → (left_of (after mid) ≡ 0) ⊎ (rest ≡ 0)
+    → Destroys z budget header old mid
 destroys_all z budget header old mid rest on over = record {
   purges = on.purges;
-  purged = some_all budget header (103 * length (after old).found) (state_of old) on.purges rest on.some (subst (λ (s : State). (left_of s.world ≡ 0) ⊎ (rest ≡ 0)) (state_so_far old mid on.purges on.grown) over);
+  purged =
+      some_all budget header (103 * length (after old).found) (state_of old) on.purges rest on.some
+      (subst (λ (s : State). (left_of s.world ≡ 0) ⊎ (rest ≡ 0)) (state_so_far old mid on.purges on.grown) over);
   grown = on.grown;
   found = on.found;
   opened = on.opened;
@@ -175,11 +187,13 @@ answer_by : (header : Header) (w : World) (test : ReadyTest) (a : Act) → IsByC
 answer_by header w test (act.Asked of poll answer) is meets = is of (class_of w of) poll answer meets
 answer_by header w test a is meets = tt
 
-answers_by : (header : Header) (w : World) (test : ReadyTest) (acts : List Act) → IsByClass header test → AllByRecursion (λ (e : Entry). Meets w test e.act) (by Collector acts) → AllByRecursion (AnswersBy header w) acts
+answers_by : (header : Header) (w : World) (test : ReadyTest) (acts : List Act) → IsByClass header test
+    → AllByRecursion (λ (e : Entry). Meets w test e.act) (by Collector acts) → AllByRecursion (AnswersBy header w) acts
 answers_by header w test [] is meets = tt
 answers_by header w test (a ∷ acts) is meets = (answer_by header w test a is meets.0, answers_by header w test acts is meets.1)
 
-pub purge_answers : (z : Sizes) (header : Header) (mid new : List Entry) (budget : ℕ) (reply : Purged) (test : ReadyTest) (h : Appends z mid new Collector (act.PurgeGc budget reply)) → IsByClass header test
+pub purge_answers : (z : Sizes) (header : Header) (mid new : List Entry) (budget : ℕ) (reply : Purged) (test : ReadyTest)
+    (h : Appends z mid new Collector (act.PurgeGc budget reply)) → IsByClass header test
     → MeetTest (after mid) mid new test → AllByRecursion (AnswersBy header (after mid)) h.acts
 purge_answers z header mid new budget reply test h is meets =
     let added : drop (length mid) new ≡ by Collector h.acts = ap (drop (length mid)) h.grown ∙ drop-append_seam mid (by Collector h.acts) in

@@ -20,9 +20,8 @@ use Rattle.world_model.proofs.Collections.{all_append, keeps_mark, slices_mark, 
 use Rattle.world_model.proofs.Progress.{marks_leave}
 use Rattle.world_play.specs.Header.{Header}
 use Rattle.std.specs.Prelude.{slice_get}
-use Rattle.world_play.specs.Types.{Name, Kind, Phase, Idle, Marking, Swept, SweepStop, Pass, Marker, Collector, Act, Entry}
+use Rattle.world_play.specs.Types.{Name, Kind, Phase, Idle, Marking, Swept, SweepStop, Pass, Collector, Act, Entry}
 use Rattle.world_play.specs.Types.act
-use Rattle.world_play.specs.Types.begin
 use Rattle.world_play.specs.Types.sweep
 use Rattle.world_play.specs.Collections.{SweepsMore, SweepsAll, Collected}
 use Rattle.world_play.specs.Outcome.{Scene, is_reached, unreached, collected}
@@ -106,14 +105,25 @@ names_of_new [] = refl
 names_of_new (n ∷ names) = ap (λ (rest : List Name). n ∷ rest) (names_of_new names)
 
 -- a commit that keeps the reached units leaves the scene that a collection leaves, and removes what is not reached
-committed_scene : (z : Sizes) (m : Marks) (w : World) → IsCalm z w → KeepsReached (graph w) (graph (committed m w)) → (scene_of (committed m w) ≡ collected z (scene_of w)) × (names_of (committed m w).removals ≡ unreached z (scene_of w))
+committed_scene : (z : Sizes) (m : Marks) (w : World) → IsCalm z w → KeepsReached (graph w) (graph (committed m w))
+    → (scene_of (committed m w) ≡ collected z (scene_of w)) × (names_of (committed m w).removals ≡ unreached z (scene_of w))
 committed_scene z m w calm keeps =
     let marks : (u : List Name) → Among w.units u → is_marked m u ≡ is_reached z (scene_of w) u = passes_reached z w (committed m w) (is_marked m) calm refl keeps in
     let stay : filter (is_marked m) w.units ≡ filter (is_reached z (scene_of w)) w.units = filter_same (is_marked m) (is_reached z (scene_of w)) w.units marks in
     let go : white_units m w ≡ filter (λ u. not (is_reached z (scene_of w) u)) w.units =
     filter_same (λ u. not (is_marked m u)) (λ u. not (is_reached z (scene_of w) u)) w.units (λ u h. ap not (marks u h)) in
-    let gone : members (white_units m w) ≡ unreached z (scene_of w) = ap members go in
-    (λ i. record { kinds = w.kinds; cell = w.cell; plain = w.plain; units = stay i; rooted = λ n. w.rooted n && not (has (gone i) n); opened = w.opened }, names_of_new (members (white_units m w)) ∙ gone)
+    let gone : members (white_units m w) ≡ unreached z (scene_of w) = ap members go in (
+      λ i.
+          record {
+            kinds = w.kinds;
+            cell = w.cell;
+            plain = w.plain;
+            units = stay i;
+            rooted = λ n. w.rooted n && not (has (gone i) n);
+            opened = w.opened;
+          },
+      names_of_new (members (white_units m w)) ∙ gone,
+    )
 
 -- ---- sweeps
 
@@ -305,7 +315,8 @@ module _ (z : Sizes) (budget : ℕ) (header : Header) (old piece : List Entry) (
       let more : List Entry = by Collector h.swept.more in
       let last : List Act = act.Sweep budget h.swept.last h.swept.late ∷ [] in
       let entries : h.front ≡ half ++ (more ++ by Collector last) = h.found ∙ ap (λ (es : List Entry). half ++ es) (ap (by Collector) h.swept.are ∙ by-append Collector h.swept.more last) in
-      ap (λ (es : List Entry). (run s es).collector.agreed) entries ∙ ap (λ (t : State). t.collector.agreed) (run-append s half (more ++ by Collector last) ∙ run-append (run s half) more (by Collector last))
+      ap (λ (es : List Entry). (run s es).collector.agreed) entries
+      ∙ ap (λ (t : State). t.collector.agreed) (run-append s half (more ++ by Collector last) ∙ run-append (run s half) more (by Collector last))
 
   gone_different : all_different (unreached z (scene_of w)) ≡ true
   gone_different = different_filter _ w.units (members_different z old before)
@@ -340,5 +351,7 @@ module _ (z : Sizes) (budget : ℕ) (header : Header) (old piece : List Entry) (
     found = ap (λ (v : World). all_different v.found) ended ∙ has_found.different;
     same = λ n. ap (λ (v : World). has v.found n) ended ∙ found_same n;
     scene = ap scene_of ended ∙ ap scene_of has_found.world ∙ kept_scene.0;
-    calm = subst (IsCalm z) (sym (ended ∙ ap (λ (v : World). record v { removals = [] }) has_found.world)) (record { idle = refl; released = refl; cells = calm.cells; pointers = calm.pointers; fits = calm.fits });
+    calm =
+        subst (IsCalm z) (sym (ended ∙ ap (λ (v : World). record v { removals = [] }) has_found.world))
+        (record { idle = refl; released = refl; cells = calm.cells; pointers = calm.pointers; fits = calm.fits });
   }

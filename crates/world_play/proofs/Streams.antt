@@ -13,7 +13,10 @@ gained_more None b c bytes rest at n is was step = tt
 gained_more (Some xs) None c bytes rest at n is was step = absurd (cc)
 gained_more (Some xs) (Some ys) c bytes rest at n is was step =
     let same : ys ≡ xs ++ take at bytes = cc in
-    step ∙ ap (λ (zs : List ℕ). Some zs) (ap (λ (zs : List ℕ). zs ++ take n rest) same ∙ append_assoc xs (take at bytes) (take n rest) ∙ ap (λ (zs : List ℕ). xs ++ (take at bytes ++ take n zs)) is ∙ ap (λ (zs : List ℕ). xs ++ zs) (sym (take-add at n bytes)))
+    step
+    ∙ ap (λ (zs : List ℕ). Some zs)
+    (ap (λ (zs : List ℕ). zs ++ take n rest) same ∙ append_assoc xs (take at bytes) (take n rest)
+    ∙ ap (λ (zs : List ℕ). xs ++ (take at bytes ++ take n zs)) is ∙ ap (λ (zs : List ℕ). xs ++ zs) (sym (take-add at n bytes)))
 
 pub gained_both : (a b c : Option (List ℕ)) (xs ys : List ℕ) → Gained a b xs → Gained b c ys → Gained a c (xs ++ ys)
 gained_both None b c xs ys was step = tt
@@ -48,7 +51,8 @@ read_more (Some xs) (Some ys) later all buf n (rest, is, cut) takes =
     )
 
 -- at the end all bytes were read
-pub read_end : (left now later : Option (List ℕ)) (all buf : List ℕ) (limit n : ℕ) → ReadOn left now all → Takes {E = Failed} now later (Ok n) buf → n ≡ 0 → length all ≤ limit + 1 → Read left later limit all
+pub read_end : (left now later : Option (List ℕ)) (all buf : List ℕ) (limit n : ℕ) → ReadOn left now all → Takes {E = Failed} now later (Ok n) buf
+    → n ≡ 0 → length all ≤ limit + 1 → Read left later limit all
 read_end None now later all buf limit n on takes none few = tt
 read_end (Some xs) None later all buf limit n (rest, is, cut) takes none few = absurd cc
 read_end (Some xs) (Some ys) later all buf limit n (rest, is, cut) takes none few =

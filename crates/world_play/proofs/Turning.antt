@@ -1,22 +1,18 @@
 -- What a command of a lane needs, and what it leaves.
-use Rattle.std.proofs.Common.{◌≡◌, ℕ, ◌-◌, zero, suc, length, ◌==◌, ◌<◌, ◌&&◌, map, get_or, Bool, true, false, not, ◌||◌, cond, List, [], ◌∷◌, ◌++◌, filter, refl, sym, ap, ◌∙◌, subst, arith, inl, inr, ◌⊎◌, Option, Some, None, Result, Ok, Err, option_map, IfSome, IsTrue}
-use Rattle.std.specs.Prelude.{nat_lt, slice_index, slice_get, option_and_then}
+use Rattle.std.proofs.Common.{◌≡◌, ℕ, ◌-◌, zero, suc, length, ◌==◌, ◌<◌, ◌&&◌, map, get_or, Bool, true, false, not, ◌||◌, cond, List, [], ◌∷◌, ◌++◌, filter, refl, sym, ap, ◌∙◌, subst, arith, inl, inr, ◌⊎◌, Option, Some, None, Result, Ok, Err}
+use Rattle.std.specs.Prelude.{nat_lt, slice_index, slice_get}
 use Rattle.std.specs.List.{list_any}
 use Rattle.std.proofs.lemmas.Bool.Decides.{nat_tests}
-use Rattle.world_model.specs.Sizes.{Sizes}
 use Rattle.world_model.specs.NameLists.{same_pass, set_at}
 use Rattle.world_model.specs.World.{World, kind_of}
-use Rattle.world_model.specs.State.{State, beginning}
+use Rattle.world_model.specs.State.{State}
 use Rattle.world_model.specs.Next.{run}
-use Rattle.world_model.specs.Histories.{state_of, after}
 use Rattle.world_model.specs.Calls.{by, CallOf, StoreEntries}
-use Rattle.world_model.specs.Engines.{Holdings, act_of_refusal}
-use Rattle.world_model.proofs.Joins.{run-append}
+use Rattle.world_model.specs.Engines.{act_of_refusal}
 use Rattle.world_model.proofs.ListFacts.{and_true}
 use Rattle.class_schema.specs.Class.{Class}
 use Rattle.class_schema.specs.Table as table
 use Rattle.class_schema.specs.declared.field.FieldKind.{FieldKind}
-use Rattle.level_script.specs.Frames.{fits_lane, fits_target}
 use Rattle.world_play.specs.Header.{Header}
 use Rattle.world_play.specs.Text.{HasText}
 use Rattle.world_play.specs.Types.{Name, Ref, ClassId, Kind, CreateErr, Reply, Pass, Lane, Marker, Collector, Act, Entry, Cmd, LaneCmd, Spot, Field}
@@ -31,7 +27,7 @@ use Rattle.class_schema.specs.Layout.{is_ref}
 use Rattle.world_play.specs.Lanes.{Says, OnObject, OnElement, no_room, Makes, object_of, LaneTurn}
 use Rattle.world_play.specs.Laws.{LaneClass, HasClass}
 use Rattle.world_play.specs.Plays.{frames_by, fits}
-use Rattle.world_play.specs.Turns.{frames_of, AreMade, IsReady, LaneDid}
+use Rattle.world_play.specs.Turns.{frames_of, AreMade}
 use Rattle.world_play.specs.Variables.{Standing, HasVariable}
 
 -- ---- what a command that fits has
@@ -83,7 +79,8 @@ last_or (y ∷ xs) x k zero e = inl e
 last_or (y ∷ xs) x k (suc i) e = last_or xs x k i e
 
 -- so they do where one more of such a kind is made
-pub made_more : (header : Header) (old new : World) (lane : ℕ) (kind : Kind) → new.kinds ≡ set_at old.kinds lane (old.kinds lane ++ kind ∷ []) → kind.class.0 < length header.classes.classes → kind ≡ table.kind_of header.classes kind.class → AreMade header old → AreMade header new
+pub made_more : (header : Header) (old new : World) (lane : ℕ) (kind : Kind) → new.kinds ≡ set_at old.kinds lane (old.kinds lane ++ kind ∷ [])
+    → kind.class.0 < length header.classes.classes → kind ≡ table.kind_of header.classes kind.class → AreMade header old → AreMade header new
 made_more header old new lane kind are small is made = record {
   class = λ n k e. each (λ (k : Kind). k.class.0 < length header.classes.classes) small (made.class) n k e;
   kind = λ n k e. each (λ (k : Kind). k ≡ table.kind_of header.classes k.class) is (made.kind) n k e;
@@ -117,7 +114,9 @@ one_closed (Lane k ∷ opened) lane j = go (lane == k) refl (j == lane) refl (j 
   where
     go : (b : Bool) → (lane == k) ≡ b → (c : Bool) → (j == lane) ≡ c → (d : Bool) → (j == k) ≡ d
         → list_any (same_pass (Lane j)) (filter (λ q. not (same_pass (Lane lane) q)) opened) ≡ cond c false (list_any (same_pass (Lane j)) opened)
-        → list_any (same_pass (Lane j)) (cond (not b) (Lane k ∷ filter (λ q. not (same_pass (Lane lane) q)) opened) (filter (λ q. not (same_pass (Lane lane) q)) opened)) ≡ cond c false (d || list_any (same_pass (Lane j)) opened)
+        → list_any (same_pass (Lane j))
+        (cond (not b) (Lane k ∷ filter (λ q. not (same_pass (Lane lane) q)) opened) (filter (λ q. not (same_pass (Lane lane) q)) opened))
+        ≡ cond c false (d || list_any (same_pass (Lane j)) opened)
     go true e true f d g rest = rest
     go true e false f true g rest = absurd (let wrong : (j == lane) ≡ true = grind (arith, nat_tests, e, g) in cc)
     go true e false f false g rest = rest
@@ -144,7 +143,8 @@ alone : (P : List Entry → Type 0) (lane : ℕ) (a : Act) (piece : List Entry) 
 alone P lane a piece acts one is p = subst P (sym (is ∙ ap (by (Lane lane)) one)) p
 
 -- a store, perhaps after a note
-stored : (s : State) (lane : ℕ) (a : Act) (piece : List Entry) (acts : List Act) → StoreEntries a acts → piece ≡ by (Lane lane) acts → Stays s (by (Lane lane) (a ∷ [])) → ((of : Name) → Stays s (by (Lane lane) (act.Kept of ∷ a ∷ []))) → Stays s piece
+stored : (s : State) (lane : ℕ) (a : Act) (piece : List Entry) (acts : List Act) → StoreEntries a acts → piece ≡ by (Lane lane) acts
+    → Stays s (by (Lane lane) (a ∷ [])) → ((of : Name) → Stays s (by (Lane lane) (act.Kept of ∷ a ∷ []))) → Stays s piece
 stored s lane a piece acts (inl one) is first noted = alone (Stays s) lane a piece acts one is first
 stored s lane a piece acts (inr note) is first noted = subst (Stays s) (sym (is ∙ ap (by (Lane lane)) note.1)) (noted note.0)
 
@@ -181,7 +181,9 @@ module _ (P : Reply → Type 0) (lane : ℕ) (no_object : P (reply.NoObject lane
 
 -- a refusal of a spot gives no object
 pub refused_none : (h : Header) (kinds : Kinds) (lane : ℕ) (wanted : FieldKind → Bool) (at : Option Name) (spot : Spot) (r : Reply) → spot_at h kinds lane wanted at spot ≡ Err r → object_of r ≡ None
-refused_none h kinds lane wanted at spot r is = subst (Refused (λ q. object_of q ≡ None) lane refl refl refl refl) is (spot_refused (λ q. object_of q ≡ None) lane refl refl refl refl h kinds wanted at spot)
+refused_none h kinds lane wanted at spot r is =
+    subst (Refused (λ q. object_of q ≡ None) lane refl refl refl refl) is
+    (spot_refused (λ q. object_of q ≡ None) lane refl refl refl refl h kinds wanted at spot)
 
 -- and tells no class
 abbrev TellsNone : List Class → ℕ → Result Element Reply → Type 0
@@ -190,7 +192,8 @@ TellsNone classes lane x = Refused (HasText classes) lane tt tt tt tt x
 spot_tells : (classes : List Class) (lane : ℕ) (h : Header) (kinds : Kinds) (wanted : FieldKind → Bool) (at : Option Name) (spot : Spot) → TellsNone classes lane (spot_at h kinds lane wanted at spot)
 spot_tells classes lane h kinds wanted at spot = spot_refused (HasText classes) lane tt tt tt tt h kinds wanted at spot
 
-target_tells : (classes : List Class) (lane : ℕ) (h : Header) (kinds : Kinds) (to : Option Name) (spot : Result Element Reply) → TellsNone classes lane spot → TellsNone classes lane (target_at h kinds lane to spot)
+target_tells : (classes : List Class) (lane : ℕ) (h : Header) (kinds : Kinds) (to : Option Name) (spot : Result Element Reply)
+    → TellsNone classes lane spot → TellsNone classes lane (target_at h kinds lane to spot)
 target_tells classes lane h kinds to spot p = target_refused (HasText classes) lane tt tt tt tt tt h kinds to spot p
 
 -- what a call on an element leaves and tells, and a refusal
@@ -202,7 +205,8 @@ module _ (header : Header) (s : State) (lane : ℕ) (piece : List Entry) (r : Re
   said : (what : Reply) → HasText header.classes.classes what → Says what piece r → Answers
   said what told h = record { stays = quiet s piece h.0; told = plain header.classes.classes r what told h.1 }
 
-  on_element : (x : Result Element Reply) (call : Element → List Entry → Reply → Type 0) → TellsNone header.classes.classes lane x → ((e : Element) → call e piece r → Answers) → OnElement x call piece r → Answers
+  on_element : (x : Result Element Reply) (call : Element → List Entry → Reply → Type 0) → TellsNone header.classes.classes lane x
+      → ((e : Element) → call e piece r → Answers) → OnElement x call piece r → Answers
   on_element (Err why) call told f h = said why told h
   on_element (Ok e) call told f h = f e h
 
@@ -214,7 +218,8 @@ module _ (header : Header) (s : State) (lane : ℕ) (piece : List Entry) (r : Re
   one_answers : (a : Act) (acts : List Act) (told : Reply) → HasText header.classes.classes told → acts ≡ a ∷ [] → piece ≡ by (Lane lane) acts → r ≡ told → Stays s (by (Lane lane) (a ∷ [])) → Answers
   one_answers a acts told text one is tells stays = record { stays = alone (Stays s) lane a piece acts one is stays; told = plain header.classes.classes r told text tells }
 
-  store_answers : (a : Act) (acts : List Act) (told : Reply) → HasText header.classes.classes told → StoreEntries a acts → piece ≡ by (Lane lane) acts → r ≡ told → Stays s (by (Lane lane) (a ∷ [])) → ((of : Name) → Stays s (by (Lane lane) (act.Kept of ∷ a ∷ []))) → Answers
+  store_answers : (a : Act) (acts : List Act) (told : Reply) → HasText header.classes.classes told → StoreEntries a acts → piece ≡ by (Lane lane) acts
+      → r ≡ told → Stays s (by (Lane lane) (a ∷ [])) → ((of : Name) → Stays s (by (Lane lane) (act.Kept of ∷ a ∷ []))) → Answers
   store_answers a acts told text store is tells stays noted = record { stays = stored s lane a piece acts store is stays noted; told = plain header.classes.classes r told text tells }
 
   -- a command that leaves the frames and the kinds
@@ -255,7 +260,9 @@ pub first_name : (out : List Ref) (d : Ref) (n : Name) → map (λ r. r.name) ou
 first_name [] d n e = absurd cc
 first_name (r ∷ rs) d n e = cc
 
-make_leaves : (header : Header) (s : State) (lane var : ℕ) (class : ClassId) (piece : List Entry) (r : Reply) → class.0 < length header.classes.classes → AreMade header s.world → Makes s lane (table.kind_of header.classes class) piece r → Leaves header s lane (lane_cmd.New var class) piece r
+make_leaves : (header : Header) (s : State) (lane var : ℕ) (class : ClassId) (piece : List Entry) (r : Reply)
+    → class.0 < length header.classes.classes → AreMade header s.world → Makes s lane (table.kind_of header.classes class) piece r
+    → Leaves header s lane (lane_cmd.New var class) piece r
 make_leaves header s lane var class piece r small made (inl (count, (acts, call, is), tells)) =
     let kind : Kind = table.kind_of header.classes class in
     let a : Act = act.Make (kind ∷ []) count in
@@ -266,10 +273,12 @@ make_leaves header s lane var class piece r small made (inl (count, (acts, call,
     }
 make_leaves header s lane var class piece r small made (inr (why, (acts, call, is), tells)) =
     still header s lane piece r (lane_cmd.New var class) refl made
-    (one_answers header s lane piece r (act_of_refusal 1 why) acts (no_room lane why) (no_room_text header.classes.classes lane why) (refusal_one s lane why acts call) is tells (refusal_stays s lane why))
+    (one_answers header s lane piece r (act_of_refusal 1 why) acts (no_room lane why) (no_room_text header.classes.classes lane why)
+    (refusal_one s lane why acts call) is tells (refusal_stays s lane why))
 
 -- each command of a lane
-pub lane_leaves : (header : Header) (s : State) (names new : Bindings) (lane : ℕ) (what : LaneCmd) (piece : List Entry) (r : Reply) → LaneClass header what → AreMade header s.world → LaneTurn header s names lane what piece r new → Leaves header s lane what piece r
+pub lane_leaves : (header : Header) (s : State) (names new : Bindings) (lane : ℕ) (what : LaneCmd) (piece : List Entry) (r : Reply)
+    → LaneClass header what → AreMade header s.world → LaneTurn header s names lane what piece r new → Leaves header s lane what piece r
 lane_leaves header s names new lane lane_cmd.Open piece r class made ((phase, (acts, call, is), tells), same) = record {
   frames = alone (λ es. frames_of (run s es).world ≡ set_at (frames_of s.world) lane true) lane (act.FrameOpen phase) piece acts call.0 is (λ i j. or_cond (j == lane) (frames_of s.world j) i);
   made = alone (λ es. AreMade header (run s es).world) lane (act.FrameOpen phase) piece acts call.0 is (made_on header s.world (run s (by (Lane lane) (act.FrameOpen phase ∷ []))).world refl made);
@@ -284,23 +293,33 @@ lane_leaves header s names new lane (lane_cmd.New var class) piece r small made 
 lane_leaves header s names new lane (lane_cmd.Root var on) piece r class made h =
     still header s lane piece r (lane_cmd.Root var on) refl made
     (on_object header s lane piece r (names.objects lane var) _
-    (λ n h. store_answers header s lane piece r (act.Root n on h.0) h.1.0 (reply.WasRoot lane h.0) tt h.1.1.0 h.1.2 h.2 (record { frames = refl; kinds = refl }) (λ of. record { frames = refl; kinds = refl })) h.0)
+    (λ n h.
+    store_answers header s lane piece r (act.Root n on h.0) h.1.0 (reply.WasRoot lane h.0) tt h.1.1.0 h.1.2 h.2
+    (record { frames = refl; kinds = refl }) (λ of. record { frames = refl; kinds = refl })) h.0)
 lane_leaves header s names new lane (lane_cmd.Set spot to) piece r class made h =
     still header s lane piece r (lane_cmd.Set spot to) refl made
     (on_element header s lane piece r (set_spot header s.world.kinds lane (names.objects lane) spot to) _
-    (target_tells header.classes.classes lane header s.world.kinds (value_of (names.objects lane) to) _ (spot_tells header.classes.classes lane header s.world.kinds is_ref (names.objects lane spot.var) spot))
-    (λ e h. store_answers header s lane piece r (act.WriteRef e.at e.slot (value_of (names.objects lane) to) h.0) h.1.0 (reply.Was lane h.0) tt h.1.1.0 h.1.2 h.2 (record { frames = refl; kinds = refl }) (λ of. record { frames = refl; kinds = refl })) h.0)
+    (target_tells header.classes.classes lane header s.world.kinds (value_of (names.objects lane) to) _
+    (spot_tells header.classes.classes lane header s.world.kinds is_ref (names.objects lane spot.var) spot))
+    (λ e h.
+    store_answers header s lane piece r (act.WriteRef e.at e.slot (value_of (names.objects lane) to) h.0) h.1.0 (reply.Was lane h.0) tt h.1.1.0
+    h.1.2 h.2 (record { frames = refl; kinds = refl }) (λ of. record { frames = refl; kinds = refl })) h.0)
 lane_leaves header s names new lane (lane_cmd.Get var spot) piece r class made h =
     still header s lane piece r (lane_cmd.Get var spot) refl made
-    (on_element header s lane piece r (get_spot header s.world.kinds lane (names.objects lane) spot) _ (spot_tells header.classes.classes lane header s.world.kinds is_ref (names.objects lane spot.var) spot)
+    (on_element header s lane piece r (get_spot header s.world.kinds lane (names.objects lane) spot) _
+    (spot_tells header.classes.classes lane header s.world.kinds is_ref (names.objects lane spot.var) spot)
     (λ e h. one_answers header s lane piece r (act.ReadRef e.at e.slot h.0) h.1.0 (reply.Is lane h.0) tt h.1.1.0 h.1.2 h.2 (record { frames = refl; kinds = refl })) h.0)
 lane_leaves header s names new lane (lane_cmd.Put spot value) piece r class made h =
     still header s lane piece r (lane_cmd.Put spot value) refl made
-    (on_element header s lane piece r (int_spot header s.world.kinds lane (names.objects lane) spot) _ (spot_tells header.classes.classes lane header s.world.kinds is_int (names.objects lane spot.var) spot)
+    (on_element header s lane piece r (int_spot header s.world.kinds lane (names.objects lane) spot) _
+    (spot_tells header.classes.classes lane header s.world.kinds is_int (names.objects lane spot.var) spot)
     (λ e h. one_answers header s lane piece r (act.WritePlain e.at e.slot value h.0) h.1.0 (reply.WasNumber lane h.0) tt h.1.1.0 h.1.2 h.2 (record { frames = refl; kinds = refl })) h.0)
 lane_leaves header s names new lane (lane_cmd.Take spot) piece r class made h =
     still header s lane piece r (lane_cmd.Take spot) refl made
-    (on_element header s lane piece r (int_spot header s.world.kinds lane (names.objects lane) spot) _ (spot_tells header.classes.classes lane header s.world.kinds is_int (names.objects lane spot.var) spot)
+    (on_element header s lane piece r (int_spot header s.world.kinds lane (names.objects lane) spot) _
+    (spot_tells header.classes.classes lane header s.world.kinds is_int (names.objects lane spot.var) spot)
     (λ e h. one_answers header s lane piece r (act.ReadPlain e.at e.slot h.0) h.1.0 (reply.IsNumber lane h.0) tt h.1.1.0 h.1.2 h.2 (record { frames = refl; kinds = refl })) h.0)
 lane_leaves header s names new lane (lane_cmd.Print var) piece r class made h =
-    still header s lane piece r (lane_cmd.Print var) refl made (said header s lane piece r (told_object s.world.kinds lane (names.objects lane var)) (object_told header s.world lane (names.objects lane var) made) h.0)
+    still header s lane piece r (lane_cmd.Print var) refl made
+    (said header s lane piece r (told_object s.world.kinds lane (names.objects lane var))
+    (object_told header s.world lane (names.objects lane var) made) h.0)

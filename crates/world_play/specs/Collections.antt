@@ -1,5 +1,5 @@
 -- What a command of the collector is: one relation of its entries and its reply, given the state before.
-use Rattle.std.specs.Prelude.{◌≡◌, ℕ, ◌*◌, ◌-◌, ◌<◌, min, nat_lt, Bool, true, false, ◌&&◌, ◌⊎◌, List, [], ◌∷◌, ◌++◌, length, flat_map}
+use Rattle.std.specs.Prelude.{◌≡◌, ℕ, ◌*◌, ◌-◌, ◌<◌, min, nat_lt, Bool, false, ◌&&◌, ◌⊎◌, List, [], ◌∷◌, ◌++◌, length, flat_map}
 use Rattle.std.specs.List.{AllByRecursion}
 use Rattle.world_model.specs.World.{World, left_of}
 use Rattle.world_model.specs.Hooks.{class_of}
@@ -70,7 +70,8 @@ unfoldable pub PurgesAll : ℕ → Header → ℕ → State → List (List Act) 
 PurgesAll budget header bound s [] = (left_of s.world ≡ 0) ⊎ (bound ≡ 0)
 PurgesAll budget header bound s (acts ∷ rest) =
     (0 < left_of s.world) × (0 < bound)
-    × ((steps : ℕ) × (left : ℕ) × CallOf s Collector (act.PurgeGc (min budget bound) (purge.Ran steps left)) acts × AllByRecursion (AnswersBy header s.world) acts × PurgesAll budget header (bound - steps) (run s (by Collector acts)) rest)
+    × ((steps : ℕ) × (left : ℕ) × CallOf s Collector (act.PurgeGc (min budget bound) (purge.Ran steps left)) acts
+    × AllByRecursion (AnswersBy header s.world) acts × PurgesAll budget header (bound - steps) (run s (by Collector acts)) rest)
 
 -- a whole collection ran: it began, slices marked until one was idle, it was committed, sweeps found what it removed, and purges destroyed it, with at most 103 steps for each removed object
 pub record Collected (budget : ℕ) (header : Header) (s : State) (piece : List Entry) : Type 0 where

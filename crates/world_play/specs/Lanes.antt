@@ -1,5 +1,5 @@
 -- What a command of a lane is: one relation of its entries, its reply and the variables that it leaves, given the state and the variables before.
-use Rattle.std.specs.Prelude.{◌≡◌, ℕ, Bool, true, false, ◌⊎◌, List, [], ◌∷◌, Option, Some, None, Result, Ok, Err}
+use Rattle.std.specs.Prelude.{◌≡◌, ℕ, ◌⊎◌, List, [], ◌∷◌, Option, Some, None, Result, Ok, Err}
 use Rattle.world_model.specs.State.{State}
 use Rattle.world_model.specs.Calls.{by, CallOf}
 use Rattle.world_model.specs.Engines.{act_of_refusal}

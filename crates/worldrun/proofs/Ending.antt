@@ -158,7 +158,9 @@ stopped_so P Q status.Memory (Some engine) next stopped = next engine stopped
 pub early_ended : (w : Words) (left now had mid has : Option (List ℕ)) (count : ℕ) (r : Option Run) (ended how : Status) (before after : ℕ) → Finishes ended how before after → Keeps mid has
     → OnStopped ended r (EndsEarly w left had mid count) → OnDone ended (IfSome r (EndsWell w left now had mid)) → OnStopped how r (Breaks w left now had has count)
 early_ended w left now had mid has count r ended how before after (inl same) kept early headline =
-    subst (λ (s : Status). OnStopped s r (Breaks w left now had has count)) (sym same.0) (stopped_so (EndsEarly w left had mid count) (Breaks w left now had has count) ended r (λ engine e. inl (early_kept w left had mid has count engine kept e)) early)
+    subst (λ (s : Status). OnStopped s r (Breaks w left now had has count)) (sym same.0)
+    (stopped_so (EndsEarly w left had mid count) (Breaks w left now had has count) ended r
+    (λ engine e. inl (early_kept w left had mid has count engine kept e)) early)
 early_ended w left now had mid has count None ended how before after (inr failed) kept early headline =
     subst (λ (s : Status). OnStopped s None (Breaks w left now had has count)) (sym failed.1) tt
 early_ended w left now had mid has count (Some engine) ended how before after (inr failed) kept early headline =
@@ -180,10 +182,12 @@ some_both (Some x) P Q R next p q = next x p q
 
 -- ---- with nothing held back
 
-pub headline_beneath : (w : Words) (left now had mid below : Option (List ℕ)) (bs : List ℕ) (r : Option Run) → Keeps mid (append_known below bs) → bs ≡ [] → IfSome r (EndsWell w left now had mid) → IfSome r (EndsWell w left now had below)
+pub headline_beneath : (w : Words) (left now had mid below : Option (List ℕ)) (bs : List ℕ) (r : Option Run) → Keeps mid (append_known below bs)
+    → bs ≡ [] → IfSome r (EndsWell w left now had mid) → IfSome r (EndsWell w left now had below)
 headline_beneath w left now had mid below bs r kept empty headline =
     subst (λ (has : Option (List ℕ)). IfSome r (EndsWell w left now had has)) (beneath below bs empty) (headline_kept w left now had mid (append_known below bs) r kept headline)
 
-pub outcome_beneath : (name : ShapeName) (left had mid below : Option (List ℕ)) (bs : List ℕ) → Keeps mid (append_known below bs) → bs ≡ [] → WritesOutcome name left had mid → WritesOutcome name left had below
+pub outcome_beneath : (name : ShapeName) (left had mid below : Option (List ℕ)) (bs : List ℕ) → Keeps mid (append_known below bs) → bs ≡ []
+    → WritesOutcome name left had mid → WritesOutcome name left had below
 outcome_beneath name left had mid below bs kept empty outcome =
     subst (WritesOutcome name left had) (beneath below bs empty) (outcome_kept name left had mid (append_known below bs) kept outcome)

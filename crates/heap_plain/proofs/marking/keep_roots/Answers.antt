@@ -8,7 +8,8 @@ loop-i-init c = keeps_none _ _ _ _ _ _
 pub loop-i-preserved : goal.loop-i-preserved
 loop-i-preserved c =
     let was = c.loop-i.invariant in
-    keeps_more _ _ _ _ _ _ _ _ _ _ _ _ _ _ _ _ _ was c.keep_one-pushed.ensures refl refl (omega (arith, c.requires.heads c.loop-i.i, keeps_len was)) (omega (arith, was.few, was.room, c.requires.room, c.loop-i-test.true))
+    keeps_more _ _ _ _ _ _ _ _ _ _ _ _ _ _ _ _ _ was c.keep_one-pushed.ensures refl refl (omega (arith, c.requires.heads c.loop-i.i, keeps_len was))
+    (omega (arith, was.few, was.room, c.requires.room, c.loop-i-test.true))
 
 pub keep_one-pushed-requires-clause-bits : goal.keep_one-pushed-requires-clause-bits
 keep_one-pushed-requires-clause-bits c = omega (arith, c.requires.heads c.loop-i.i, keeps_len c.loop-i.invariant, c.loop-i.marked.ok.0)

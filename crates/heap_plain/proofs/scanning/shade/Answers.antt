@@ -16,4 +16,6 @@ pub returns : goal.returns
 returns c =
     let inside = c.requires.heads c.in-Some.index in
     let white : c.index.result.now ≡ get_or c.args.marked.now.items (get_or c.args.firsts.now c.in-Some.index 0) false = get_or_read c.args.marked.now.items _ _ inside c.index.ensures false in
-    rw c.kept.ensures (shades_one c.in-Some.index _ c.named.result c.in-Some.is (λ r e. same_some c.args.target c.in-Some.index r c.in-Some.is e) refl inside (sym white ∙ c.if-index.false) c.named.ensures c.requires.fits)
+    rw c.kept.ensures
+    (shades_one c.in-Some.index _ c.named.result c.in-Some.is (λ r e. same_some c.args.target c.in-Some.index r c.in-Some.is e) refl inside
+    (sym white ∙ c.if-index.false) c.named.ensures c.requires.fits)

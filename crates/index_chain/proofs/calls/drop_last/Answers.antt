@@ -42,9 +42,9 @@ pub returns-then-left-eq0-clause-writes : goal.returns-then-left-eq0-clause-writ
 returns-then-left-eq0-clause-writes g c =
     let words = g.L.Links.words c.args.links.now in
     subst (g.L.Links.writes c.args.links.now c.at-last.new.links)
-        (sym
-          (end_write-none (take (c.args.chain.count - 1) (items words c.args.chain)) None
-            (no_front words c.args.chain c.if-left-eq0.true c.requires.chain))) c.at-last.ensures.writes
+    (sym
+    (end_write-none (take (c.args.chain.count - 1) (items words c.args.chain)) None
+    (no_front words c.args.chain c.if-left-eq0.true c.requires.chain))) c.at-last.ensures.writes
 
 pub returns-then-left-eq0-clause-others : goal.returns-then-left-eq0-clause-others
 returns-then-left-eq0-clause-others g c other apart whole =
@@ -60,11 +60,11 @@ set_next-requires g c =
     let words = g.L.Links.words c.args.links.now in
     let now : g.L.Links.words c.at-end.new.links ≡ words = c.at-end.ensures.words ∙ c.at-last.ensures.words in
     let item : slice_get (items words (left c.args.chain)) (c.args.chain.count - 1 - 1) ≡ Some c.at-end.result =
-        subst (λ (w : Words). slice_get (items w (left c.args.chain)) (c.args.chain.count - 1 - 1) ≡ Some c.at-end.result) c.at-last.ensures.words
-          c.at-end.ensures.item in
+    subst (λ (w : Words). slice_get (items w (left c.args.chain)) (c.args.chain.count - 1 - 1) ≡ Some c.at-end.result) c.at-last.ensures.words
+    c.at-end.ensures.item in
     subst (λ (w : Words). IsTold w c.at-end.result) (sym now)
-        (place_told words (items words (left c.args.chain)) (c.args.chain.count - 1 - 1) c.at-end.result
-          (left_whole words c.args.chain c.requires.chain).told item)
+    (place_told words (items words (left c.args.chain)) (c.args.chain.count - 1 - 1) c.at-end.result
+    (left_whole words c.args.chain c.requires.chain).told item)
 
 -- what the write makes of the words, and that it is one
 module _ (words first second third : Words) (chain : Chain) (end : ℕ) (whole : IsChain words chain) (some : chain.count - 1 ≡ 0 → ⊥)
@@ -94,38 +94,38 @@ pub returns-clause-items : goal.returns-clause-items
 returns-clause-items g c =
     let words = g.L.Links.words c.args.links.now in
     (stays words (g.L.Links.words c.at-last.new.links) (g.L.Links.words c.at-end.new.links) (g.L.Links.words c.set_next.new.self) c.args.chain
-          c.at-end.result c.requires.chain c.if-left-eq0.false c.at-last.ensures.words c.at-end.ensures.words c.at-end.ensures.item
-          c.set_next.ensures.now).same ∙ left_is words c.args.chain
+    c.at-end.result c.requires.chain c.if-left-eq0.false c.at-last.ensures.words c.at-end.ensures.words c.at-end.ensures.item
+    c.set_next.ensures.now).same ∙ left_is words c.args.chain
 
 pub returns-clause-chain : goal.returns-clause-chain
 returns-clause-chain g c =
     let words = g.L.Links.words c.args.links.now in
     (stays words (g.L.Links.words c.at-last.new.links) (g.L.Links.words c.at-end.new.links) (g.L.Links.words c.set_next.new.self) c.args.chain
-        c.at-end.result c.requires.chain c.if-left-eq0.false c.at-last.ensures.words c.at-end.ensures.words c.at-end.ensures.item
-        c.set_next.ensures.now).whole
+    c.at-end.result c.requires.chain c.if-left-eq0.false c.at-last.ensures.words c.at-end.ensures.words c.at-end.ensures.item
+    c.set_next.ensures.now).whole
 
 pub returns-clause-words : goal.returns-clause-words
 returns-clause-words g c =
     let words = g.L.Links.words c.args.links.now in
     ended words (g.L.Links.words c.at-last.new.links) (g.L.Links.words c.at-end.new.links) (g.L.Links.words c.set_next.new.self) c.args.chain
-        c.at-end.result c.requires.chain c.if-left-eq0.false c.at-last.ensures.words c.at-end.ensures.words c.at-end.ensures.item
-        c.set_next.ensures.now
+    c.at-end.result c.requires.chain c.if-left-eq0.false c.at-last.ensures.words c.at-end.ensures.words c.at-end.ensures.item
+    c.set_next.ensures.now
     ∙ ap (λ (is : List ℕ). with_end words is None) (left_is words c.args.chain)
 
 pub returns-clause-others : goal.returns-clause-others
 returns-clause-others g c other apart whole =
     let words = g.L.Links.words c.args.links.now in
     others words (g.L.Links.words c.at-last.new.links) (g.L.Links.words c.at-end.new.links) (g.L.Links.words c.set_next.new.self) c.args.chain
-        c.at-end.result c.requires.chain c.if-left-eq0.false c.at-last.ensures.words c.at-end.ensures.words c.at-end.ensures.item
-        c.set_next.ensures.now other apart whole
+    c.at-end.result c.requires.chain c.if-left-eq0.false c.at-last.ensures.words c.at-end.ensures.words c.at-end.ensures.item
+    c.set_next.ensures.now other apart whole
 
 pub returns-clause-writes : goal.returns-clause-writes
 returns-clause-writes g c =
     let words = g.L.Links.words c.args.links.now in
     let is =
-        write_is words (g.L.Links.words c.at-last.new.links) (g.L.Links.words c.at-end.new.links) (g.L.Links.words c.set_next.new.self) c.args.chain
-          c.at-end.result c.requires.chain c.if-left-eq0.false c.at-last.ensures.words c.at-end.ensures.words c.at-end.ensures.item
-          c.set_next.ensures.now in
+    write_is words (g.L.Links.words c.at-last.new.links) (g.L.Links.words c.at-end.new.links) (g.L.Links.words c.set_next.new.self) c.args.chain
+    c.at-end.result c.requires.chain c.if-left-eq0.false c.at-last.ensures.words c.at-end.ensures.words c.at-end.ensures.item
+    c.set_next.ensures.now in
     let read = g.met.L.Links.follows c.args.links.now c.at-last.new.links c.at-end.new.links [] [] c.at-last.ensures.writes c.at-end.ensures.writes in
     subst (g.L.Links.writes c.args.links.now c.set_next.new.self) (sym is)
-        (g.met.L.Links.follows c.args.links.now c.at-end.new.links c.set_next.new.self [] ((c.at-end.result, None) ∷ []) read c.set_next.ensures.one)
+    (g.met.L.Links.follows c.args.links.now c.at-end.new.links c.set_next.new.self [] ((c.at-end.result, None) ∷ []) read c.set_next.ensures.one)

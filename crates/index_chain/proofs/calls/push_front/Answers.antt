@@ -14,7 +14,7 @@ returns-clause-chain g c =
     let words = g.L.Links.words c.args.links.now in
     let i = c.args.i in
     subst (λ (w : Words). IsChain w (record { first = Some i; count = c.args.chain.count + 1 })) (sym c.set_next.ensures.now)
-        (pushed_whole words c.args.chain i c.requires.told c.requires.new c.requires.chain)
+    (pushed_whole words c.args.chain i c.requires.told c.requires.new c.requires.chain)
 
 pub returns-clause-others : goal.returns-clause-others
 returns-clause-others g c other out whole =

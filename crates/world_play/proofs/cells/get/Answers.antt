@@ -1,6 +1,6 @@
-use Rattle.std.proofs.Common.{◌≡◌, refl, sym, ap, ◌∙◌, subst, [], append-nil, List, Option, None, option_map}
+use Rattle.std.proofs.Common.{refl, sym, ap, ◌∙◌, subst, [], append-nil, List, Option, None, option_map}
 use Rattle.world_model.specs.Calls.{by, Appends}
-use Rattle.world_model.specs.Histories.{state_of, after}
+use Rattle.world_model.specs.Histories.{state_of}
 use Rattle.class_schema.specs.Layout.{is_ref}
 use Rattle.world_play.specs.Types.{Name, Ref, Lane, Entry}
 use Rattle.world_play.specs.Types.act
@@ -22,7 +22,11 @@ returns-in-Ok-clause-did g c =
     let cell = c.in-Ok.cell in
     let got = c.read_ref-got.result in
     let seen = ap (λ (o : Option Ref). spot_at c.args.header.now s.world.kinds lane is_ref (option_map (λ r. r.name) o) spot) (sym c.get-at.ensures) ∙ c.in-Ok.ensures.finds in
-    let h = subst (λ (es : List Entry). Appends g.S.Shape.sizes es (g.E.Engine.history c.read_ref-got.new.self) (Lane lane) (act.ReadRef cell.at.name cell.slot (option_map (λ (r : Ref). r.name) got))) c.in-Ok.ensures.same c.read_ref-got.ensures.entries in
+    let h =
+    subst
+    (λ (es : List Entry).
+    Appends g.S.Shape.sizes es (g.E.Engine.history c.read_ref-got.new.self) (Lane lane)
+    (act.ReadRef cell.at.name cell.slot (option_map (λ (r : Ref). r.name) got))) c.in-Ok.ensures.same c.read_ref-got.ensures.entries in
     record {
       piece = by (Lane lane) h.acts;
       grown = h.grown;
@@ -37,7 +41,8 @@ pub returns-in-Ok-clause-held : goal.returns-in-Ok-clause-held
 returns-in-Ok-clause-held g c =
     let old = standing c.args.variables.now in
     subst (AreHeld (g.E.Engine.holds c.read_ref-got.new.self)) (sym c.bind.ensures)
-    (bind_held _ old c.args.lane c.args.var c.read_ref-got.result c.read_ref-got.ensures.given (held_on _ _ old (λ i r held. c.read_ref-got.ensures.held i r (c.in-Ok.ensures.held i r held)) c.requires.held))
+    (bind_held _ old c.args.lane c.args.var c.read_ref-got.result c.read_ref-got.ensures.given
+    (held_on _ _ old (λ i r held. c.read_ref-got.ensures.held i r (c.in-Ok.ensures.held i r held)) c.requires.held))
 
 pub returns-in-Err-clause-did : goal.returns-in-Err-clause-did
 returns-in-Err-clause-did g c =

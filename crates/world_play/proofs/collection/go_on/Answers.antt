@@ -49,7 +49,10 @@ returns g c =
         swept = finds.swept;
         grown = finds.grown ∙ ap (λ (h : List Entry). h ++ by Collector finds.sweeps) (committed.2 ∙ ap (λ (h : List Entry). h ++ by Collector (act.CommitGc commit.Done ∷ [])) marks.grown);
         destroys = destroys;
-        answer = λ i. reply.FullGc ((c.len-removed.ensures ∙ c.sort_unstable.ensures.len ∙ c.in_ok-names.names.ok.0 ∙ ap length (sym found)) i) (c.purge_all-left.ensures.left i) ((sorted ∙ ap in_name_order (sym found)) i);
+        answer =
+            λ i.
+            reply.FullGc ((c.len-removed.ensures ∙ c.sort_unstable.ensures.len ∙ c.in_ok-names.names.ok.0 ∙ ap length (sym found)) i)
+            (c.purge_all-left.ensures.left i) ((sorted ∙ ap in_name_order (sym found)) i);
         opened = finds.opened ∙ committed.1 ∙ marks.now.closed ∙ sym c.requires.marking.closed;
         held = λ lane r h. c.purge_all-left.ensures.held lane r (c.in_ok-names.ensures.held lane r (c.commit.ensures.held lane r (c.mark_all.ensures.held lane r h)));
       };

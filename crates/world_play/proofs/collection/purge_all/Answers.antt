@@ -42,7 +42,8 @@ purges-smaller g c =
     let i = c.purges.invariant in
     let says = purge_answers _ c.args.header.now _ _ _ _ _ c.in-Ran.ensures.entries i.tested c.in-Ran.ensures.tested in
     let more = destroys_more _ _ _ _ _ _ _ _ _ _ _ c.min.ensures i.on c.in-Ran.ensures.entries (omega (arith, c.if-left-eq0.false, i.left)) (omega (arith, c.if-bound-eq0.false)) says in
-    purge_less c.purges.bound c.in-Ran.steps c.in-Ran.rest c.purges.left c.min.result more.2 more.3 (omega (arith, c.min.ensures, c.requires.some, c.if-bound-eq0.false)) (omega (arith, c.if-left-eq0.false))
+    purge_less c.purges.bound c.in-Ran.steps c.in-Ran.rest c.purges.left c.min.result more.2 more.3
+    (omega (arith, c.min.ensures, c.requires.some, c.if-bound-eq0.false)) (omega (arith, c.if-left-eq0.false))
 
 pub returns-in-Gathering-clause-destroys : goal.returns-in-Gathering-clause-destroys
 returns-in-Gathering-clause-destroys g c = absurd (never_gathering _ _ _ _ c.in-Gathering.ensures.entries c.purges.invariant.on.swept.idle)

@@ -28,4 +28,7 @@ returns-in_default g c = rw c.in_ok-extend_from_slice.ensures.items (record {
 })
 
 pub returns-in_err-extend_from_slice-clause-some : goal.returns-in_err-extend_from_slice-clause-some
-returns-in_err-extend_from_slice-clause-some g c = err_holds _ _ (finds_some _ _ _ _ _ _ _ _ c.sweeps.invariant.on c.sweep-swept.ensures.entries (λ more. within _ _ _ _ _ (c.sweep-swept.ensures.more more) c.sweeps.invariant.room))
+returns-in_err-extend_from_slice-clause-some g c =
+    err_holds _ _
+    (finds_some _ _ _ _ _ _ _ _ c.sweeps.invariant.on c.sweep-swept.ensures.entries
+    (λ more. within _ _ _ _ _ (c.sweep-swept.ensures.more more) c.sweeps.invariant.room))

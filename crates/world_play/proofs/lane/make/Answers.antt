@@ -1,9 +1,9 @@
-use Rattle.std.proofs.Common.{refl, ◌≡◌, ◌+◌, ℕ, subst, sym, ap, ◌∙◌, arith, inl, inr, [], ◌∷◌, get_or, Option, Some, None}
+use Rattle.std.proofs.Common.{refl, ◌≡◌, ◌+◌, ℕ, subst, sym, ap, ◌∙◌, arith, inl, inr, [], ◌∷◌, get_or, Some, None}
 use Rattle.world_model.specs.World.{made}
 use Rattle.world_model.specs.Histories.{after}
 use Rattle.class_schema.specs.Table.{kind_of}
 use Rattle.world_play.specs.Header.{Header}
-use Rattle.world_play.specs.Types.{Name, Ref, Kind}
+use Rattle.world_play.specs.Types.{Ref, Kind}
 use Rattle.world_play.specs.Types.act
 use Rattle.world_play.specs.Types.reply
 use Rattle.world_play.specs.Bindings.{bound}

@@ -1,4 +1,4 @@
-use Rattle.std.proofs.Common.{◌≡◌, ◌++◌, ◌+◌, List, [], ◌∷◌, take, length, get_or, refl, sym, ap, ◌∙◌, arith, subst, ℕ, false}
+use Rattle.std.proofs.Common.{◌++◌, ◌+◌, List, [], ◌∷◌, take, length, get_or, refl, sym, ap, ◌∙◌, subst, ℕ, false}
 use Rattle.std.proofs.lemmas.List.{take_more, length-replicate}
 use Rattle.world_model.specs.State.{beginning}
 use Rattle.world_model.specs.Histories.{state_of}
@@ -7,7 +7,7 @@ use Rattle.world_play.specs.Types.cmd
 use Rattle.world_play.specs.Types.lane_cmd
 use Rattle.world_play.specs.Text.{text_of}
 use Rattle.world_play.specs.Streams.{Gained}
-use Rattle.world_play.specs.Bindings.{Bindings, no_bindings}
+use Rattle.world_play.specs.Bindings.{no_bindings}
 use Rattle.world_play.specs.Plays.{TurnBy, Plays, text}
 use Rattle.world_play.specs.Variables.{Standing, standing, shown, AreHeld}
 use Rattle.world_play.proofs.Keeping.{unbound_held}
@@ -22,7 +22,9 @@ pub loop-line-init : goal.loop-line-init
 loop-line-init g c = rw c.requires.start (record {
   pieces = [];
   replies = [];
-  plays = subst (λ (v : Standing). Plays c.args.budget c.args.header.now beginning no_bindings [] [] [] (shown v)) (sym c.in-Ok.ensures) (plays_none c.args.budget c.args.header.now beginning no_bindings);
+  plays =
+      subst (λ (v : Standing). Plays c.args.budget c.args.header.now beginning no_bindings [] [] [] (shown v)) (sym c.in-Ok.ensures)
+      (plays_none c.args.budget c.args.header.now beginning no_bindings);
   cut = refl;
   put = gained_none _;
   fit = framed_fit c.args.counts.now c.args.header.now _ _ _ c.args.lines.now (length-replicate _ false) (all_closed _) c.requires.framed;
@@ -49,7 +51,9 @@ play_line-requires-clause-ready g c =
 pub returns-in_err-play_line-clause-stopped : goal.returns-in_err-play_line-clause-stopped
 returns-in_err-play_line-clause-stopped g c =
     let i = c.loop-line.invariant in
-    err_holds _ _ (stopped_at _ _ _ c.args.lines.now c.loop-line.line-index (record { number = 0; cmd = cmd.Lane 0 lane_cmd.Open }) i.pieces i.replies _ _ _ _ _ _ _ c.loop-line-test.true i.plays i.cut i.put i.written c.in_err-play_line.ensures.unanswered)
+    err_holds _ _
+    (stopped_at _ _ _ c.args.lines.now c.loop-line.line-index (record { number = 0; cmd = cmd.Lane 0 lane_cmd.Open }) i.pieces i.replies _ _ _ _ _
+    _ _ c.loop-line-test.true i.plays i.cut i.put i.written c.in_err-play_line.ensures.unanswered)
 
 pub loop-line-preserved : goal.loop-line-preserved
 loop-line-preserved g c =
@@ -60,7 +64,11 @@ loop-line-preserved g c =
     let line : Line = get_or c.args.lines.now c.loop-line.line-index none in
     let before : List Line = take c.loop-line.line-index c.args.lines.now in
     let fit = fit_at _ c.args.counts.now c.args.header.now _ c.args.lines.now c.loop-line.line-index none c.loop-line-test.true i.fit in
-    let turn = subst (λ (h : List Entry). TurnBy c.args.budget c.args.header.now (state_of h) (shown (standing c.loop-line.variables)) line.cmd t.piece a.reply (shown (standing c.play_line.new.variables))) i.cut t.turn in
+    let turn =
+    subst
+    (λ (h : List Entry).
+    TurnBy c.args.budget c.args.header.now (state_of h) (shown (standing c.loop-line.variables)) line.cmd t.piece a.reply
+    (shown (standing c.play_line.new.variables))) i.cut t.turn in
     rw (take_more c.args.lines.now c.loop-line.line-index none c.loop-line-test.true) (record {
       pieces = i.pieces ++ t.piece ∷ [];
       replies = i.replies ++ a.reply ∷ [];

@@ -15,7 +15,9 @@ returns-in_default-push_line-clause-unanswered g c = breaks _ _ _ _ _ _ c.args.l
 pub returns-clause-unanswered : goal.returns-clause-unanswered
 returns-clause-unanswered g c =
     let r = c.in-Ok.reply in
-    let told = c.in-Ok-push_line.ensures ∙ ap (λ (front : List ℕ). front ++ text_of c.header.inside.classes.now.classes r) c.clear.ensures.bytes ∙ ap (λ (t : Header). text_of t.classes.classes r) c.header.view_is in
+    let told =
+    c.in-Ok-push_line.ensures ∙ ap (λ (front : List ℕ). front ++ text_of c.header.inside.classes.now.classes r) c.clear.ensures.bytes
+    ∙ ap (λ (t : Header). text_of t.classes.classes r) c.header.view_is in
     each_err _ _ c.put_all.result
     (λ start. puts_part _ _ _ _ _ _ _ _ c.args.line.now c.in-Ok.reply _ _ c.lawful.ensures.legal c.in-Ok.ensures.turned (subst (GainedStart _ _) (c.as_bytes.ensures.value ∙ told) start))
     c.put_all.ensures.start

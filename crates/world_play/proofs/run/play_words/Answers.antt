@@ -11,15 +11,21 @@ use Rattle.world_play.proofs.run.play_words.Goals as goal
 
 pub returns-in-Ok-clause-headline : goal.returns-in-Ok-clause-headline
 returns-in-Ok-clause-headline g c =
-    headline_of c.args.words c.perform_in.result.status _ _ c.in-Ok.script c.perform_in.result.run _ _ _ (subst (λ (limits : Limits). IsScript limits (g.S.Source.left c.args.script.now) c.in-Ok.script) c.limits_in.ensures.limits c.in-Ok.ensures.read) c.in-Ok.ensures.taken c.perform_in.ensures.played
+    headline_of c.args.words c.perform_in.result.status _ _ c.in-Ok.script c.perform_in.result.run _ _ _
+    (subst (λ (limits : Limits). IsScript limits (g.S.Source.left c.args.script.now) c.in-Ok.script) c.limits_in.ensures.limits
+    c.in-Ok.ensures.read) c.in-Ok.ensures.taken c.perform_in.ensures.played
 
 pub returns-in-Ok-clause-outcome : goal.returns-in-Ok-clause-outcome
 returns-in-Ok-clause-outcome g c =
-    outcome_of_run one_text_holds c.args.words c.perform_in.result.status _ c.in-Ok.script c.perform_in.result.run _ _ _ (subst (λ (limits : Limits). IsPlayable limits c.in-Ok.script) c.limits_in.ensures.limits c.in-Ok.ensures.playable)
-    (subst (λ (limits : Limits). IsScript limits (g.S.Source.left c.args.script.now) c.in-Ok.script) c.limits_in.ensures.limits c.in-Ok.ensures.read) c.perform_in.ensures.run c.perform_in.ensures.played
+    outcome_of_run one_text_holds c.args.words c.perform_in.result.status _ c.in-Ok.script c.perform_in.result.run _ _ _
+    (subst (λ (limits : Limits). IsPlayable limits c.in-Ok.script) c.limits_in.ensures.limits c.in-Ok.ensures.playable)
+    (subst (λ (limits : Limits). IsScript limits (g.S.Source.left c.args.script.now) c.in-Ok.script) c.limits_in.ensures.limits c.in-Ok.ensures.read)
+    c.perform_in.ensures.run c.perform_in.ensures.played
 
 pub returns-in-Ok-clause-lines : goal.returns-in-Ok-clause-lines
-returns-in-Ok-clause-lines g c = counts_of _ _ c.perform_in.result.status c.in-Ok.script _ _ _ _ (λ class. plain_class c.in-Ok.script.classes.classes class.0 c.in-Ok.ensures.playable.named) c.perform_in.ensures.played
+returns-in-Ok-clause-lines g c =
+    counts_of _ _ c.perform_in.result.status c.in-Ok.script _ _ _ _
+    (λ class. plain_class c.in-Ok.script.classes.classes class.0 c.in-Ok.ensures.playable.named) c.perform_in.ensures.played
 
 pub returns-in-Err-clause-complete : goal.returns-in-Err-clause-complete
 returns-in-Err-clause-complete g c told quiet put_quiet =
@@ -28,7 +34,9 @@ returns-in-Err-clause-complete g c told quiet put_quiet =
 
 pub returns-in-Ok-clause-script : goal.returns-in-Ok-clause-script
 returns-in-Ok-clause-script g c =
-    names_of_script c.args.words.shape c.perform_in.result.status _ c.in-Ok.script _ _ (subst (λ (limits : Limits). IsScript limits (g.S.Source.left c.args.script.now) c.in-Ok.script) c.limits_in.ensures.limits c.in-Ok.ensures.read) c.perform_in.ensures.write
+    names_of_script c.args.words.shape c.perform_in.result.status _ c.in-Ok.script _ _
+    (subst (λ (limits : Limits). IsScript limits (g.S.Source.left c.args.script.now) c.in-Ok.script) c.limits_in.ensures.limits
+    c.in-Ok.ensures.read) c.perform_in.ensures.write
 
 pub returns-in-Err-clause-script : goal.returns-in-Err-clause-script
 returns-in-Err-clause-script g c =
@@ -37,4 +45,6 @@ returns-in-Err-clause-script g c =
 
 pub returns-in-Ok-clause-early : goal.returns-in-Ok-clause-early
 returns-in-Ok-clause-early g c =
-    early_of c.args.words c.perform_in.result.status _ c.in-Ok.script c.perform_in.result.run _ _ _ (subst (λ (limits : Limits). IsScript limits (g.S.Source.left c.args.script.now) c.in-Ok.script) c.limits_in.ensures.limits c.in-Ok.ensures.read) c.perform_in.ensures.played
+    early_of c.args.words c.perform_in.result.status _ c.in-Ok.script c.perform_in.result.run _ _ _
+    (subst (λ (limits : Limits). IsScript limits (g.S.Source.left c.args.script.now) c.in-Ok.script) c.limits_in.ensures.limits
+    c.in-Ok.ensures.read) c.perform_in.ensures.played

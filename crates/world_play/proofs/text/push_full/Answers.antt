@@ -10,6 +10,8 @@ joined t c d e f n l =
 
 pub returns : goal.returns
 returns c =
-    let counts : string_bytes c.write.new.self ≡ string_bytes c.args.text.now ++ (codes "gc full removed " ++ (decimal c.args.removed ++ (codes " left " ++ decimal c.args.left))) = c.in_ok-write.ensures.bytes in
+    let counts : string_bytes c.write.new.self
+    ≡ string_bytes c.args.text.now ++ (codes "gc full removed " ++ (decimal c.args.removed ++ (codes " left " ++ decimal c.args.left))) =
+    c.in_ok-write.ensures.bytes in
     c.in_ok-push_str.ensures.bytes ∙ ap (λ (xs : List ℕ). xs ++ codes "\n") (c.in_ok-push_names.ensures ∙ ap (λ (xs : List ℕ). xs ++ names_text c.args.found.now) counts)
     ∙ joined (string_bytes c.args.text.now) (codes "gc full removed ") (decimal c.args.removed) (codes " left ") (decimal c.args.left) (names_text c.args.found.now) (codes "\n")

@@ -1,4 +1,4 @@
-use Rattle.std.proofs.Common.{List, Option, None, add-one, ap, ◌∙◌}
+use Rattle.std.proofs.Common.{None, add-one, ap, ◌∙◌}
 use Rattle.std.specs.Prelude.{slice_set}
 use Rattle.world_play.proofs.Keeping.{fill_more}
 use Rattle.world_play.proofs.variables.clear.Goals as goal

@@ -7,7 +7,9 @@ pub loop-at-preserved : goal.loop-at-preserved
 loop-at-preserved g c =
     let whole : take (length c.args.bytes.now - c.loop-at.at) (drop c.loop-at.at c.args.bytes.now) ≡ drop c.loop-at.at c.args.bytes.now
     = take_all _ _ (omega (arith, length-drop c.loop-at.at c.args.bytes.now)) in
-    let count : c.in_ok-count.count ≤ length c.args.bytes.now - c.loop-at.at = let b = c.in_ok-count.ensures.bound in let e = ap length whole in omega (arith, length-drop c.loop-at.at c.args.bytes.now) in
+    let count : c.in_ok-count.count ≤ length c.args.bytes.now - c.loop-at.at = let b = c.in_ok-count.ensures.bound in
+    let e = ap length whole in
+    omega (arith, length-drop c.loop-at.at c.args.bytes.now) in
     record {
       faults = c.in_ok-count.ensures.cause.1 (omega arith) ∙ c.loop-at.invariant.faults;
       inside = omega arith;

@@ -8,19 +8,19 @@ pub returns-in-Some-clause-line : goal.returns-in-Some-clause-line
 returns-in-Some-clause-line c =
     let i = c.self.inside in
     rw (← c.self.view_is)
-        (ap (option_map (λ (r : FieldRow). r.line)) c.find.ensures
-          ∙ sym
-            (line_at i.slots i.names.keys i.classes.entries c.self.invariant c.args.class c.index.result.now c.index.ensures c.args.name.now
-              c.in-Some.number (sym c.in-Some.ensures.index)))
+    (ap (option_map (λ (r : FieldRow). r.line)) c.find.ensures
+    ∙ sym
+    (line_at i.slots i.names.keys i.classes.entries c.self.invariant c.args.class c.index.result.now c.index.ensures c.args.name.now
+    c.in-Some.number (sym c.in-Some.ensures.index)))
 
 pub returns-in-Some-clause-field : goal.returns-in-Some-clause-field
 returns-in-Some-clause-field c =
     let i = c.self.inside in
     rw (← c.self.view_is)
-        (ap (option_map (λ (r : FieldRow). r.field)) c.find.ensures
-          ∙ sym
-            (field_at i.slots i.names.keys i.classes.entries c.self.invariant c.args.class c.index.result.now c.index.ensures c.args.name.now
-              c.in-Some.number (sym c.in-Some.ensures.index)))
+    (ap (option_map (λ (r : FieldRow). r.field)) c.find.ensures
+    ∙ sym
+    (field_at i.slots i.names.keys i.classes.entries c.self.invariant c.args.class c.index.result.now c.index.ensures c.args.name.now
+    c.in-Some.number (sym c.in-Some.ensures.index)))
 
 pub returns-in-None-clause-line : goal.returns-in-None-clause-line
 returns-in-None-clause-line c =

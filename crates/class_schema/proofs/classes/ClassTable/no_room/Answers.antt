@@ -21,15 +21,15 @@ returns-then-used-count c =
     let row = c.index-row.result.now in
     let test = lt-ltb c.self.inside.slots (row.refs + row.plain + c.args.count) c.if-used-count.true in
     rw (← c.self.view_is)
-        (sym (ap (λ b. cond b (Some (refusal.TooManySlots (row.refs + row.plain) c.args.count)) None) test)
-          ∙ room_seen c.self.inside.slots c.self.inside.names.keys c.self.inside.classes.entries c.self.invariant c.args.class row c.index-row.ensures
-            c.args.count)
+    (sym (ap (λ b. cond b (Some (refusal.TooManySlots (row.refs + row.plain) c.args.count)) None) test)
+    ∙ room_seen c.self.inside.slots c.self.inside.names.keys c.self.inside.classes.entries c.self.invariant c.args.class row c.index-row.ensures
+    c.args.count)
 
 pub returns-else-used-count : goal.returns-else-used-count
 returns-else-used-count c =
     let row = c.index-row.result.now in
     let test = le-ltb c.self.inside.slots (row.refs + row.plain + c.args.count) c.if-used-count.false in
     rw (← c.self.view_is)
-        (sym (ap (λ b. cond b (Some (refusal.TooManySlots (row.refs + row.plain) c.args.count)) None) test)
-          ∙ room_seen c.self.inside.slots c.self.inside.names.keys c.self.inside.classes.entries c.self.invariant c.args.class row c.index-row.ensures
-            c.args.count)
+    (sym (ap (λ b. cond b (Some (refusal.TooManySlots (row.refs + row.plain) c.args.count)) None) test)
+    ∙ room_seen c.self.inside.slots c.self.inside.names.keys c.self.inside.classes.entries c.self.invariant c.args.class row c.index-row.ensures
+    c.args.count)

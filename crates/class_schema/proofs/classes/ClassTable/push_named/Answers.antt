@@ -24,7 +24,7 @@ push-requires-clause-room c =
 as_was : (c : goal.After-drop-key-in_err-push) → set_value_at c.self.inside.classes.entries c.args.class.0 c.push.new.self ≡ c.self.inside.classes.entries
 as_was c =
     ap (set_value_at c.self.inside.classes.entries c.args.class.0) c.in_err-push.ensures.err
-      ∙ set_same c.self.inside.classes.entries c.args.class.0 c.index_mut.result.now c.index_mut.ensures.value
+    ∙ set_same c.self.inside.classes.entries c.args.class.0 c.index_mut.result.now c.index_mut.ensures.value
 
 pub invariant_of-self-in_err-push : goal.invariant_of-self-in_err-push
 invariant_of-self-in_err-push c =
@@ -62,21 +62,21 @@ invariant_of-self-2 c =
     let i = c.self.inside in
     let row = c.index_mut.result.now in
     let ok =
-        subst (λ (t : Schema). IsAdmitted t c.args.class c.args.name.now c.args.count) (sym c.self.view_is)
-          (admits c.args.self.now c.args.class c.args.name.now c.args.count c.requires.admitted) in
+    subst (λ (t : Schema). IsAdmitted t c.args.class c.args.name.now c.args.count) (sym c.self.view_is)
+    (admits c.args.self.now c.args.class c.args.name.now c.args.count c.requires.admitted) in
     let target = subst (λ (t : Schema). IsTrue (has_target (length t.classes) c.args.kind)) (sym c.self.view_is) c.requires.target in
     subst (λ keys. Keeps i.slots keys (set_value_at i.classes.entries c.args.class.0 c.push.new.self)) (sym (keys_are c))
     (subst (λ (r : ClassRow). Keeps i.slots (i.names.keys ++ c.in_ok-key.key ∷ []) (set_value_at i.classes.entries c.args.class.0 r)) (sym (row_is c))
     (keeps_new i.slots i.names.keys i.classes.entries c.self.invariant c.args.class row c.index_mut.ensures.value c.args.name.now c.args.line
-        c.args.kind c.args.count ok c.requires.some c.requires.few target c.in_ok-key.key (is_new c)))
+    c.args.kind c.args.count ok c.requires.some c.requires.few target c.in_ok-key.key (is_new c)))
 
 pub returns-clause-ok : goal.returns-clause-ok
 returns-clause-ok c =
     let i = c.self.inside in
     let ok =
-        subst (λ (t : Schema). IsAdmitted t c.args.class c.args.name.now c.args.count) (sym c.self.view_is)
-          (admits c.args.self.now c.args.class c.args.name.now c.args.count c.requires.admitted) in
+    subst (λ (t : Schema). IsAdmitted t c.args.class c.args.name.now c.args.count) (sym c.self.view_is)
+    (admits c.args.self.now c.args.class c.args.name.now c.args.count c.requires.admitted) in
     rw (← c.self.view_is)
     ((λ t. record { slots = i.slots; classes = classes_of (texts (keys_are c t)) (set_value_at i.classes.entries c.args.class.0 (row_is c t)) })
     ∙ sees_new i.slots i.names.keys i.classes.entries c.self.invariant c.args.class c.index_mut.result.now c.index_mut.ensures.value c.args.name.now
-        c.args.line c.args.kind c.args.count ok c.in_ok-key.key (is_name c))
+    c.args.line c.args.kind c.args.count ok c.in_ok-key.key (is_name c))

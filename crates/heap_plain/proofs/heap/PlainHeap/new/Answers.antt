@@ -6,9 +6,18 @@ use Rattle.heap_plain.proofs.heap.PlainHeap.new.Goals as goal
 pub invariant_of-result : goal.invariant_of-result
 invariant_of-result g c =
     let is = g.S.Shape.constants in
-    rw c.in_ok-new.ensures (begins_as g.S.Shape.sizes c.LANES-lanes.result c.QUOTA-quota.result c.SLOTS.result _ g.S.Shape.lawful (c.LANES-lanes.ensures ∙ is.lanes) (c.QUOTA-quota.ensures ∙ is.quota) (c.SLOTS.ensures ∙ is.slots) (λ t. record {
+    rw c.in_ok-new.ensures
+    (begins_as g.S.Shape.sizes c.LANES-lanes.result c.QUOTA-quota.result c.SLOTS.result _ g.S.Shape.lawful (c.LANES-lanes.ensures ∙ is.lanes)
+    (c.QUOTA-quota.ensures ∙ is.quota) (c.SLOTS.ensures ∙ is.slots) (λ t. record {
       gate = record { phase = Idle; frames = sym c.in_ok-filled-14.ensures t };
-      objects = record { names = sym c.in_ok-filled.ensures t; firsts = sym c.in_ok-filled-2.ensures t; sizes = sym c.in_ok-filled-3.ensures t; next = sym c.in_ok-filled-4.ensures t; lives = sym c.in_ok-filled-8.ensures t };
+      objects =
+          record {
+            names = sym c.in_ok-filled.ensures t;
+            firsts = sym c.in_ok-filled-2.ensures t;
+            sizes = sym c.in_ok-filled-3.ensures t;
+            next = sym c.in_ok-filled-4.ensures t;
+            lives = sym c.in_ok-filled-8.ensures t;
+          };
       rows = record { kinds = sym c.in_ok-filled-5.ensures t; targets = sym c.in_ok-filled-6.ensures t; plains = sym c.in_ok-filled-7.ensures t };
       roots = sym c.in_ok-filled-9.ensures t;
       garbage = sym c.in_ok-filled-18.ensures t;

@@ -35,7 +35,9 @@ invariant_of-self-else-starts g c =
 
 pub returns-clause-entries : goal.returns-clause-entries
 returns-clause-entries g c =
-    rw (← c.self.view_is, c.begin_gc.ensures) (refuses_begin _ c.self.invariant (rw (c.count_open.ensures, c.deref.ensures.value) at c.may_start-reply.ensures) (sym c.starts.ensures ∙ c.if-starts.false)).entries
+    rw (← c.self.view_is, c.begin_gc.ensures)
+    (refuses_begin _ c.self.invariant (rw (c.count_open.ensures, c.deref.ensures.value) at c.may_start-reply.ensures)
+    (sym c.starts.ensures ∙ c.if-starts.false)).entries
 
 pub returns-clause-held : goal.returns-clause-held
 returns-clause-held g c = let entries = rw (← c.self.view_is) at (returns-clause-entries g c) in rw (← c.self.view_is) (keeps entries refl _)

@@ -23,14 +23,18 @@ invariant_of-self g c =
     let frame = rw (← c.self.view_is) at c.requires.frame in
     let s = c.self.invariant.shows in
     let is : c.index-made.result.now ≡ made (after c.self.inside.diary) c.args.lane = c.index-made.ensures ∙ s.made.each c.args.lane c.index-made.result.now frame.in_range in
-    rw c.refuse.ensures (refuses _ _ c.self.invariant frame is (ap (λ k. k - c.index-made.result.now) (c.NAMES.ensures ∙ g.S.Shape.constants.names)) (spare_read s.free _ _ frame.in_range c.index-spare.ensures) c.in-Err.ensures).plain
+    rw c.refuse.ensures
+    (refuses _ _ c.self.invariant frame is (ap (λ k. k - c.index-made.result.now) (c.NAMES.ensures ∙ g.S.Shape.constants.names))
+    (spare_read s.free _ _ frame.in_range c.index-spare.ensures) c.in-Err.ensures).plain
 
 pub returns-in-Err-clause-entries : goal.returns-in-Err-clause-entries
 returns-in-Err-clause-entries g c =
     let frame = rw (← c.self.view_is) at c.requires.frame in
     let s = c.self.invariant.shows in
     let is : c.index-made.result.now ≡ made (after c.self.inside.diary) c.args.lane = c.index-made.ensures ∙ s.made.each c.args.lane c.index-made.result.now frame.in_range in
-    rw (← c.self.view_is, c.refuse.ensures) (refuses _ _ c.self.invariant frame is (ap (λ k. k - c.index-made.result.now) (c.NAMES.ensures ∙ g.S.Shape.constants.names)) (spare_read s.free _ _ frame.in_range c.index-spare.ensures) c.in-Err.ensures).entries
+    rw (← c.self.view_is, c.refuse.ensures)
+    (refuses _ _ c.self.invariant frame is (ap (λ k. k - c.index-made.result.now) (c.NAMES.ensures ∙ g.S.Shape.constants.names))
+    (spare_read s.free _ _ frame.in_range c.index-spare.ensures) c.in-Err.ensures).entries
 
 pub returns-in-Err-clause-held : goal.returns-in-Err-clause-held
 returns-in-Err-clause-held g c = let entries = rw (← c.self.view_is) at (returns-in-Err-clause-entries g c) in rw (← c.self.view_is) (keeps entries (refusal_stays _ _) _)
@@ -134,8 +138,22 @@ creation : (g : Over) (c : goal.After-out-1 g) → Creation g.S.Shape.sizes (rec
   garbage = c.self.inside.garbage.items;
   colours = record { marked = c.self.inside.marked.items; work = c.self.inside.work.items; scanned = c.self.inside.scanned; pushed = c.self.inside.pushed };
   stock = record { free = c.self.inside.free.items; spare = c.self.inside.spare.items; made = c.self.inside.made.items };
-  ends = record { left = c.self.inside.left; swept = c.self.inside.swept; order = c.self.inside.order.items; listed = c.self.inside.listed; begun = c.self.inside.begun; from = c.self.inside.from; kept = c.self.inside.kept; polls = c.self.inside.polls.items; waiting = c.self.inside.waiting.items; done = c.self.inside.done };
-}) c.self.inside.diary c.args.lane c.index-made.result.now c.args.kinds.now c.place.new.names.items c.fill_popped.new.items.items c.link.new.next.items c.classify.new.stored.items c.fill_rows.new.cells.items c.fill_rows-2.new.cells.items c.fill_popped-2.new.items.items c.fill_popped-3.new.items.items
+  ends =
+      record {
+        left = c.self.inside.left;
+        swept = c.self.inside.swept;
+        order = c.self.inside.order.items;
+        listed = c.self.inside.listed;
+        begun = c.self.inside.begun;
+        from = c.self.inside.from;
+        kept = c.self.inside.kept;
+        polls = c.self.inside.polls.items;
+        waiting = c.self.inside.waiting.items;
+        done = c.self.inside.done;
+      };
+}) c.self.inside.diary c.args.lane c.index-made.result.now c.args.kinds.now c.place.new.names.items c.fill_popped.new.items.items
+    c.link.new.next.items c.classify.new.stored.items c.fill_rows.new.cells.items c.fill_rows-2.new.cells.items c.fill_popped-2.new.items.items
+    c.fill_popped-3.new.items.items
 creation g c =
     let frame = rw (← c.self.view_is) at c.requires.frame in
     let s = c.self.invariant.shows in
@@ -164,7 +182,16 @@ creation g c =
 pub invariant_of-self-2 : goal.invariant_of-self-2
 invariant_of-self-2 g c =
     let now = spare_read c.self.invariant.shows.free _ _ (creation g c).frame.in_range c.index-spare.ensures in
-    rw (c.make.ensures, c.begin_unit.ensures.size, c.begin_unit.ensures.mark, c.popped-head.ensures, c.deref.ensures.value, c.QUOTA.ensures, g.S.Shape.constants.quota, now) (creates (creation g c)).plain
+    rw (
+      c.make.ensures,
+      c.begin_unit.ensures.size,
+      c.begin_unit.ensures.mark,
+      c.popped-head.ensures,
+      c.deref.ensures.value,
+      c.QUOTA.ensures,
+      g.S.Shape.constants.quota,
+      now,
+    ) (creates (creation g c)).plain
 
 pub returns-clause-entries : goal.returns-clause-entries
 returns-clause-entries g c = rw (← c.self.view_is, ← (creation g c).is, c.make.ensures) (creates (creation g c)).entries

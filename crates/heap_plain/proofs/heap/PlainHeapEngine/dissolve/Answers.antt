@@ -27,7 +27,8 @@ index-count-requires g c =
     let held = rw (← c.self.view_is) at c.requires.at in
     let s = c.self.invariant.shows in
     let below = index_below c.self.invariant frame held in
-    let head : c.index-head.result.now ≡ first_at c.self.inside.firsts.items c.args.at.index = get_or_read c.self.inside.firsts.items _ _ (omega (arith, below, s.units.firsts_len)) c.index-head.ensures 0 in
+    let head : c.index-head.result.now ≡ first_at c.self.inside.firsts.items c.args.at.index =
+    get_or_read c.self.inside.firsts.items _ _ (omega (arith, below, s.units.firsts_len)) c.index-head.ensures 0 in
     omega (arith, head, head_below c.self.invariant frame held, s.units.sizes_len, c.self.inside.sizes.ok.0)
 
 pub list_unit-requires : goal.list_unit-requires
@@ -37,7 +38,8 @@ list_unit-requires g c =
     let s = c.self.invariant.shows in
     let below = index_below c.self.invariant frame held in
     let under = head_below c.self.invariant frame held in
-    let head : c.index-head.result.now ≡ first_at c.self.inside.firsts.items c.args.at.index = get_or_read c.self.inside.firsts.items _ _ (omega (arith, below, s.units.firsts_len)) c.index-head.ensures 0 in
+    let head : c.index-head.result.now ≡ first_at c.self.inside.firsts.items c.args.at.index =
+    get_or_read c.self.inside.firsts.items _ _ (omega (arith, below, s.units.firsts_len)) c.index-head.ensures 0 in
     let count : c.index-count.result.now ≡ get_or c.self.inside.sizes.items (first_at c.self.inside.firsts.items c.args.at.index) 0 =
     get_or_read c.self.inside.sizes.items _ _ (omega (arith, under, s.units.sizes_len)) (rw head at c.index-count.ensures) 0 in
     rw (c.deref.ensures.value, head, count) (record {
@@ -52,7 +54,8 @@ loop-left-init g c =
     let s = c.self.invariant.shows in
     let below = index_below c.self.invariant frame held in
     let under = head_below c.self.invariant frame held in
-    let head : c.index-head.result.now ≡ first_at c.self.inside.firsts.items c.args.at.index = get_or_read c.self.inside.firsts.items _ _ (omega (arith, below, s.units.firsts_len)) c.index-head.ensures 0 in
+    let head : c.index-head.result.now ≡ first_at c.self.inside.firsts.items c.args.at.index =
+    get_or_read c.self.inside.firsts.items _ _ (omega (arith, below, s.units.firsts_len)) c.index-head.ensures 0 in
     let count : c.index-count.result.now ≡ get_or c.self.inside.sizes.items (first_at c.self.inside.firsts.items c.args.at.index) 0 =
     get_or_read c.self.inside.sizes.items _ _ (omega (arith, under, s.units.sizes_len)) (rw head at c.index-count.ensures) 0 in
     rw (← c.self.view_is, head, count) (starts c.self.invariant frame held c.requires.own c.in_default.not-Marking _ (rw (c.deref.ensures.value, head, count) at c.list_unit.ensures))
@@ -64,14 +67,16 @@ pub named-requires : goal.named-requires
 named-requires g c =
     let i = c.loop-left.invariant in
     let more : 1 < c.loop-left.left = omega (arith, c.loop-left-test.true) in
-    let index : c.index-index.result.now ≡ get_or c.loop-left.self-inside.work.items (c.loop-left.left - 1) 0 = get_or_read c.loop-left.self-inside.work.items _ _ (let r = i.room in omega arith) c.index-index.ensures 0 in
+    let index : c.index-index.result.now ≡ get_or c.loop-left.self-inside.work.items (c.loop-left.left - 1) 0 =
+    get_or_read c.loop-left.self-inside.work.items _ _ (let r = i.room in omega arith) c.index-index.ensures 0 in
     rw (c.deref-in-loop-left.ensures.value, index, last_listed i more) (last_named i more)
 
 pub loop-left-preserved : goal.loop-left-preserved
 loop-left-preserved g c =
     let i = c.loop-left.invariant in
     let more : 1 < c.loop-left.left = omega (arith, c.loop-left-test.true) in
-    let index : c.index-index.result.now ≡ get_or c.loop-left.self-inside.work.items (c.loop-left.left - 1) 0 = get_or_read c.loop-left.self-inside.work.items _ _ (let r = i.room in omega arith) c.index-index.ensures 0 in
+    let index : c.index-index.result.now ≡ get_or c.loop-left.self-inside.work.items (c.loop-left.left - 1) 0 =
+    get_or_read c.loop-left.self-inside.work.items _ _ (let r = i.room in omega arith) c.index-index.ensures 0 in
     let to = index ∙ last_listed i more in
     goes_on i more _ _ _ _ (rw (c.deref-in-loop-left.ensures.value, to) at c.named.ensures) c.loose.ensures (rw to at c.loosen.ensures.firsts) (rw to at c.loosen.ensures.sizes)
 

@@ -19,7 +19,9 @@ shade_unit-self-inside-requires-clause-chain g c =
     rw (c.deref-in-loop-self-2.ensures.value, head, size) (chain_below i c.requires.marker more)
 
 pub shade_unit-self-inside-requires-clause-fit : goal.shade_unit-self-inside-requires-clause-fit
-shade_unit-self-inside-requires-clause-fit g c x = rw (c.deref-in-loop-self-3.ensures.value, c.SLOTS.ensures, g.S.Shape.constants.slots) (omega (arith, c.loop-self.invariant.slicing.sliced.shows.kinds.fit x))
+shade_unit-self-inside-requires-clause-fit g c x =
+    rw (c.deref-in-loop-self-3.ensures.value, c.SLOTS.ensures, g.S.Shape.constants.slots)
+    (omega (arith, c.loop-self.invariant.slicing.sliced.shows.kinds.fit x))
 
 pub shade_unit-self-inside-requires-clause-target : goal.shade_unit-self-inside-requires-clause-target
 shade_unit-self-inside-requires-clause-target g c = rw (c.deref-in-loop-self-4.ensures.value, c.deref-in-loop-self.ensures.value, c.SLOTS.ensures, g.S.Shape.constants.slots)
@@ -33,7 +35,17 @@ shade_unit-self-inside-requires-clause-named g c =
     get_or_read c.loop-self.self-inside.work.items _ _ (omega (arith, c.loop-self-test.true, i.sliced.shows.work.few, i.sliced.shows.work.work_len)) c.index-head.ensures 0 in
     let size : c.index-size.result.now ≡ get_or c.loop-self.self-inside.sizes.items (get_or c.loop-self.self-inside.work.items c.loop-self.self-inside.scanned 0) 0 =
     get_or_read c.loop-self.self-inside.sizes.items _ _ (omega (arith, head_below i c.requires.marker c.loop-self-test.true, i.sliced.shows.units.sizes_len)) (rw head at c.index-size.ensures) 0 in
-    rw (c.deref.ensures.value, c.deref-in-loop-self.ensures.value, c.deref-in-loop-self-2.ensures.value, c.deref-in-loop-self-3.ensures.value, c.deref-in-loop-self-4.ensures.value, c.SLOTS.ensures, g.S.Shape.constants.slots, head, size)
+    rw (
+      c.deref.ensures.value,
+      c.deref-in-loop-self.ensures.value,
+      c.deref-in-loop-self-2.ensures.value,
+      c.deref-in-loop-self-3.ensures.value,
+      c.deref-in-loop-self-4.ensures.value,
+      c.SLOTS.ensures,
+      g.S.Shape.constants.slots,
+      head,
+      size,
+    )
     (lead_named i c.requires.marker more)
 
 pub named-requires : goal.named-requires
@@ -54,7 +66,15 @@ overflow_add-scanned g c =
     get_or_read c.loop-self.self-inside.work.items _ _ (omega (arith, c.loop-self-test.true, i.sliced.shows.work.few, i.sliced.shows.work.work_len)) c.index-head.ensures 0 in
     let size : c.index-size.result.now ≡ get_or c.loop-self.self-inside.sizes.items (get_or c.loop-self.self-inside.work.items c.loop-self.self-inside.scanned 0) 0 =
     get_or_read c.loop-self.self-inside.sizes.items _ _ (omega (arith, head_below i c.requires.marker c.loop-self-test.true, i.sliced.shows.units.sizes_len)) (rw head at c.index-size.ensures) 0 in
-    omega (arith, size, i.sliced.shows.units.small (get_or c.loop-self.self-inside.work.items c.loop-self.self-inside.scanned 0), c.loop-self.invariant.small, c.loop-self-test.true, i.sliced.shows.work.few, g.S.Shape.lawful.few_items)
+    omega (
+      arith,
+      size,
+      i.sliced.shows.units.small (get_or c.loop-self.self-inside.work.items c.loop-self.self-inside.scanned 0),
+      c.loop-self.invariant.small,
+      c.loop-self-test.true,
+      i.sliced.shows.work.few,
+      g.S.Shape.lawful.few_items,
+    )
 
 pub loop-self-preserved : goal.loop-self-preserved
 loop-self-preserved g c =
@@ -64,7 +84,18 @@ loop-self-preserved g c =
     get_or_read c.loop-self.self-inside.work.items _ _ (omega (arith, c.loop-self-test.true, i.sliced.shows.work.few, i.sliced.shows.work.work_len)) c.index-head.ensures 0 in
     let size : c.index-size.result.now ≡ get_or c.loop-self.self-inside.sizes.items (get_or c.loop-self.self-inside.work.items c.loop-self.self-inside.scanned 0) 0 =
     get_or_read c.loop-self.self-inside.sizes.items _ _ (omega (arith, head_below i c.requires.marker c.loop-self-test.true, i.sliced.shows.units.sizes_len)) (rw head at c.index-size.ensures) 0 in
-    let sh = rw (c.deref.ensures.value, c.deref-in-loop-self.ensures.value, c.deref-in-loop-self-2.ensures.value, c.deref-in-loop-self-3.ensures.value, c.deref-in-loop-self-4.ensures.value, c.SLOTS.ensures, g.S.Shape.constants.slots, head, size) at c.shade_unit-self-inside.ensures in
+    let sh =
+    rw (
+      c.deref.ensures.value,
+      c.deref-in-loop-self.ensures.value,
+      c.deref-in-loop-self-2.ensures.value,
+      c.deref-in-loop-self-3.ensures.value,
+      c.deref-in-loop-self-4.ensures.value,
+      c.SLOTS.ensures,
+      g.S.Shape.constants.slots,
+      head,
+      size,
+    ) at c.shade_unit-self-inside.ensures in
     let name = rw (c.deref-in-loop-self-5.ensures.value, head) at c.named.ensures in
     rw (c.scanned.ensures, size) (record {
       small = omega (arith, i.sliced.shows.units.small (get_or c.loop-self.self-inside.work.items c.loop-self.self-inside.scanned 0), c.loop-self.invariant.small);

@@ -21,14 +21,18 @@ pub invariant_of-self : goal.invariant_of-self
 invariant_of-self g c =
     let frame = rw (← c.self.view_is) at c.requires.frame in
     let held = rw (← c.self.view_is) at c.requires.at in
-    let bit : c.index-old.result.now ≡ get_or c.self.inside.garbage.items c.args.at.index false = get_or_read c.self.inside.garbage.items _ _ (omega (arith, index_below c.self.invariant frame held, c.self.invariant.shows.garbage.len)) c.index-old.ensures false in
+    let bit : c.index-old.result.now ≡ get_or c.self.inside.garbage.items c.args.at.index false =
+    get_or_read c.self.inside.garbage.items _ _ (omega (arith, index_below c.self.invariant frame held, c.self.invariant.shows.garbage.len))
+    c.index-old.ensures false in
     rw c.mark_garbage.ensures (marks c.self.invariant frame held _ bit).plain
 
 pub returns-clause-entries : goal.returns-clause-entries
 returns-clause-entries g c =
     let frame = rw (← c.self.view_is) at c.requires.frame in
     let held = rw (← c.self.view_is) at c.requires.at in
-    let bit : c.index-old.result.now ≡ get_or c.self.inside.garbage.items c.args.at.index false = get_or_read c.self.inside.garbage.items _ _ (omega (arith, index_below c.self.invariant frame held, c.self.invariant.shows.garbage.len)) c.index-old.ensures false in
+    let bit : c.index-old.result.now ≡ get_or c.self.inside.garbage.items c.args.at.index false =
+    get_or_read c.self.inside.garbage.items _ _ (omega (arith, index_below c.self.invariant frame held, c.self.invariant.shows.garbage.len))
+    c.index-old.ensures false in
     rw (← c.self.view_is, c.mark_garbage.ensures) (marks c.self.invariant frame held _ bit).entries
 
 pub returns-clause-held : goal.returns-clause-held

@@ -50,14 +50,20 @@ loop-steps-preserved-then-self g c =
 pub index-size-requires : goal.index-size-requires
 index-size-requires g c =
     let i = c.loop-steps.invariant.purging in
-    omega (arith, release_below i c.if-self-gt0.true c.if-self.false c.in-Some.head c.in-Some.is (omega (arith, g.S.Shape.lawful.few_items)), i.shows.units.sizes_len, c.loop-steps.self-inside.sizes.ok.0)
+    omega (
+      arith,
+      release_below i c.if-self-gt0.true c.if-self.false c.in-Some.head c.in-Some.is (omega (arith, g.S.Shape.lawful.few_items)),
+      i.shows.units.sizes_len,
+      c.loop-steps.self-inside.sizes.ok.0,
+    )
 
 pub overflow_sub-self : goal.overflow_sub-self
 overflow_sub-self g c =
     let i = c.loop-steps.invariant.purging in
     let few : item_count g.S.Shape.sizes < 2 ^ 32 = omega (arith, g.S.Shape.lawful.few_items) in
     let below = release_below i c.if-self-gt0.true c.if-self.false c.in-Some.head c.in-Some.is few in
-    let size : c.index-size.result.now ≡ get_or c.loop-steps.self-inside.sizes.items c.in-Some.head 0 = get_or_read c.loop-steps.self-inside.sizes.items _ _ (omega (arith, below, i.shows.units.sizes_len)) c.index-size.ensures 0 in
+    let size : c.index-size.result.now ≡ get_or c.loop-steps.self-inside.sizes.items c.in-Some.head 0 =
+    get_or_read c.loop-steps.self-inside.sizes.items _ _ (omega (arith, below, i.shows.units.sizes_len)) c.index-size.ensures 0 in
     omega (arith, size, release_few i c.if-self-gt0.true c.if-self.false c.in-Some.head c.in-Some.is few)
 
 pub named-requires : goal.named-requires
@@ -70,7 +76,8 @@ release-requires g c =
     let i = c.loop-steps.invariant.purging in
     let few : item_count g.S.Shape.sizes < 2 ^ 32 = omega (arith, g.S.Shape.lawful.few_items) in
     let below = release_below i c.if-self-gt0.true c.if-self.false c.in-Some.head c.in-Some.is few in
-    let size : c.index-size.result.now ≡ get_or c.loop-steps.self-inside.sizes.items c.in-Some.head 0 = get_or_read c.loop-steps.self-inside.sizes.items _ _ (omega (arith, below, i.shows.units.sizes_len)) c.index-size.ensures 0 in
+    let size : c.index-size.result.now ≡ get_or c.loop-steps.self-inside.sizes.items c.in-Some.head 0 =
+    get_or_read c.loop-steps.self-inside.sizes.items _ _ (omega (arith, below, i.shows.units.sizes_len)) c.index-size.ensures 0 in
     rw (c.deref-in-Some-2.ensures.value, c.QUOTA.ensures, g.S.Shape.constants.quota, size) (record {
       chain = release_chain i c.if-self-gt0.true c.if-self.false c.in-Some.head c.in-Some.is few;
       can = release_can i c.if-self-gt0.true c.if-self.false c.in-Some.head c.in-Some.is few;
@@ -81,7 +88,8 @@ loop-steps-preserved-in-Some g c =
     let i = c.loop-steps.invariant.purging in
     let few : item_count g.S.Shape.sizes < 2 ^ 32 = omega (arith, g.S.Shape.lawful.few_items) in
     let below = release_below i c.if-self-gt0.true c.if-self.false c.in-Some.head c.in-Some.is few in
-    let size : c.index-size.result.now ≡ get_or c.loop-steps.self-inside.sizes.items c.in-Some.head 0 = get_or_read c.loop-steps.self-inside.sizes.items _ _ (omega (arith, below, i.shows.units.sizes_len)) c.index-size.ensures 0 in
+    let size : c.index-size.result.now ≡ get_or c.loop-steps.self-inside.sizes.items c.in-Some.head 0 =
+    get_or_read c.loop-steps.self-inside.sizes.items _ _ (omega (arith, below, i.shows.units.sizes_len)) c.index-size.ensures 0 in
     let t = rw (c.deref-in-Some-2.ensures.value, c.QUOTA.ensures, g.S.Shape.constants.quota, size) at c.release.ensures in
     let name = rw (c.deref-in-Some.ensures.value) at c.named.ensures in
     rw c.released.ensures (record {

@@ -13,7 +13,19 @@ invariant-loop-steps g l = record {
     garbage = l.self-inside.garbage.items;
     colours = record { marked = l.self-inside.marked.items; work = l.self-inside.work.items; scanned = l.self-inside.scanned; pushed = l.self-inside.pushed };
     stock = record { free = l.self-inside.free.items; spare = l.self-inside.spare.items; made = l.self-inside.made.items };
-    ends = record { left = l.self-inside.left; swept = l.self-inside.swept; order = l.self-inside.order.items; listed = l.self-inside.listed; begun = l.self-inside.begun; from = l.self-inside.from; kept = l.self-inside.kept; polls = l.self-inside.polls.items; waiting = l.self-inside.waiting.items; done = l.self-inside.done };
+    ends =
+        record {
+          left = l.self-inside.left;
+          swept = l.self-inside.swept;
+          order = l.self-inside.order.items;
+          listed = l.self-inside.listed;
+          begun = l.self-inside.begun;
+          from = l.self-inside.from;
+          kept = l.self-inside.kept;
+          polls = l.self-inside.polls.items;
+          waiting = l.self-inside.waiting.items;
+          done = l.self-inside.done;
+        };
   }) l.self-inside.diary;
 }
 

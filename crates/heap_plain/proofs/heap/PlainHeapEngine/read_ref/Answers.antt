@@ -10,7 +10,12 @@ index-requires g c =
     let frame = rw (← c.self.view_is) at c.requires.frame in
     let held = rw (← c.self.view_is) at c.requires.at in
     let slot = rw (← c.self.view_is) at c.requires.slot in
-    rw (c.SLOTS.ensures, g.S.Shape.constants.slots) (omega (arith, target_place c.self.invariant frame held c.args.slot (ref_below c.self.invariant frame held c.args.slot slot), c.self.inside.targets.ok.0))
+    rw (c.SLOTS.ensures, g.S.Shape.constants.slots)
+    (omega (
+      arith,
+      target_place c.self.invariant frame held c.args.slot (ref_below c.self.invariant frame held c.args.slot slot),
+      c.self.inside.targets.ok.0,
+    ))
 
 pub referred-got-requires : goal.referred-got-requires
 referred-got-requires g c =

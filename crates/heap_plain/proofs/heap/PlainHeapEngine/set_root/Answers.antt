@@ -11,7 +11,8 @@ index-requires g c =
     let held = rw (← c.self.view_is) at c.requires.at in
     let s = c.self.invariant.shows in
     let below = index_below c.self.invariant frame held in
-    let head : c.index-head.result.now ≡ first_at c.self.inside.firsts.items c.args.at.index = get_or_read c.self.inside.firsts.items _ _ (omega (arith, below, s.units.firsts_len)) c.index-head.ensures 0 in
+    let head : c.index-head.result.now ≡ first_at c.self.inside.firsts.items c.args.at.index =
+    get_or_read c.self.inside.firsts.items _ _ (omega (arith, below, s.units.firsts_len)) c.index-head.ensures 0 in
     omega (arith, head, s.units.in_range c.args.at.index, s.work.marked_len, c.self.inside.marked.ok.0)
 
 pub index_mut-requires : goal.index_mut-requires
@@ -20,7 +21,8 @@ index_mut-requires g c =
     let held = rw (← c.self.view_is) at c.requires.at in
     let s = c.self.invariant.shows in
     let below = index_below c.self.invariant frame held in
-    let head : c.index-head.result.now ≡ first_at c.self.inside.firsts.items c.args.at.index = get_or_read c.self.inside.firsts.items _ _ (omega (arith, below, s.units.firsts_len)) c.index-head.ensures 0 in
+    let head : c.index-head.result.now ≡ first_at c.self.inside.firsts.items c.args.at.index =
+    get_or_read c.self.inside.firsts.items _ _ (omega (arith, below, s.units.firsts_len)) c.index-head.ensures 0 in
     omega (arith, head, s.units.in_range c.args.at.index, s.work.marked_len, c.self.inside.marked.ok.0)
 
 pub index_mut-requires-then-must_mark : goal.index_mut-requires-then-must_mark
@@ -29,8 +31,10 @@ index_mut-requires-then-must_mark g c =
     let held = rw (← c.self.view_is) at c.requires.at in
     let s = c.self.invariant.shows in
     let below = index_below c.self.invariant frame held in
-    let head : c.index-head.result.now ≡ first_at c.self.inside.firsts.items c.args.at.index = get_or_read c.self.inside.firsts.items _ _ (omega (arith, below, s.units.firsts_len)) c.index-head.ensures 0 in
-    let bit : c.index.result.now ≡ get_or c.self.inside.marked.items c.index-head.result.now false = get_or_read c.self.inside.marked.items _ _ (omega (arith, head, s.units.in_range c.args.at.index, s.work.marked_len)) c.index.ensures false in
+    let head : c.index-head.result.now ≡ first_at c.self.inside.firsts.items c.args.at.index =
+    get_or_read c.self.inside.firsts.items _ _ (omega (arith, below, s.units.firsts_len)) c.index-head.ensures 0 in
+    let bit : c.index.result.now ≡ get_or c.self.inside.marked.items c.index-head.result.now false =
+    get_or_read c.self.inside.marked.items _ _ (omega (arith, head, s.units.in_range c.args.at.index, s.work.marked_len)) c.index.ensures false in
     let d = must _ _ _ _ c.must_mark.ensures c.if-must_mark.true in
     omega (arith, has_room c.self.invariant frame held d.1 (rw head at (sym bit ∙ d.2)), s.work.work_len, c.self.inside.work.ok.0)
 
@@ -40,10 +44,13 @@ invariant_of-self g c =
     let held = rw (← c.self.view_is) at c.requires.at in
     let s = c.self.invariant.shows in
     let below = index_below c.self.invariant frame held in
-    let head : c.index-head.result.now ≡ first_at c.self.inside.firsts.items c.args.at.index = get_or_read c.self.inside.firsts.items _ _ (omega (arith, below, s.units.firsts_len)) c.index-head.ensures 0 in
-    let bit : c.index.result.now ≡ get_or c.self.inside.marked.items c.index-head.result.now false = get_or_read c.self.inside.marked.items _ _ (omega (arith, head, s.units.in_range c.args.at.index, s.work.marked_len)) c.index.ensures false in
+    let head : c.index-head.result.now ≡ first_at c.self.inside.firsts.items c.args.at.index =
+    get_or_read c.self.inside.firsts.items _ _ (omega (arith, below, s.units.firsts_len)) c.index-head.ensures 0 in
+    let bit : c.index.result.now ≡ get_or c.self.inside.marked.items c.index-head.result.now false =
+    get_or_read c.self.inside.marked.items _ _ (omega (arith, head, s.units.in_range c.args.at.index, s.work.marked_len)) c.index.ensures false in
     let d = must _ _ _ _ c.must_mark.ensures c.if-must_mark.true in
-    rw (c.store.ensures.entry, c.kept.ensures, append_assoc c.self.inside.diary _ _, c.store.ensures.bits, d.0, head) (roots_shaded c.self.invariant frame held _ c.store.ensures.was d.1 (rw head at (sym bit ∙ d.2))).plain
+    rw (c.store.ensures.entry, c.kept.ensures, append_assoc c.self.inside.diary _ _, c.store.ensures.bits, d.0, head)
+    (roots_shaded c.self.invariant frame held _ c.store.ensures.was d.1 (rw head at (sym bit ∙ d.2))).plain
 
 pub returns-then-must_mark-clause-entries : goal.returns-then-must_mark-clause-entries
 returns-then-must_mark-clause-entries g c =
@@ -51,10 +58,13 @@ returns-then-must_mark-clause-entries g c =
     let held = rw (← c.self.view_is) at c.requires.at in
     let s = c.self.invariant.shows in
     let below = index_below c.self.invariant frame held in
-    let head : c.index-head.result.now ≡ first_at c.self.inside.firsts.items c.args.at.index = get_or_read c.self.inside.firsts.items _ _ (omega (arith, below, s.units.firsts_len)) c.index-head.ensures 0 in
-    let bit : c.index.result.now ≡ get_or c.self.inside.marked.items c.index-head.result.now false = get_or_read c.self.inside.marked.items _ _ (omega (arith, head, s.units.in_range c.args.at.index, s.work.marked_len)) c.index.ensures false in
+    let head : c.index-head.result.now ≡ first_at c.self.inside.firsts.items c.args.at.index =
+    get_or_read c.self.inside.firsts.items _ _ (omega (arith, below, s.units.firsts_len)) c.index-head.ensures 0 in
+    let bit : c.index.result.now ≡ get_or c.self.inside.marked.items c.index-head.result.now false =
+    get_or_read c.self.inside.marked.items _ _ (omega (arith, head, s.units.in_range c.args.at.index, s.work.marked_len)) c.index.ensures false in
     let d = must _ _ _ _ c.must_mark.ensures c.if-must_mark.true in
-    rw (← c.self.view_is, c.store.ensures.entry, c.kept.ensures, append_assoc c.self.inside.diary _ _, d.0) (roots_shaded c.self.invariant frame held _ c.store.ensures.was d.1 (rw head at (sym bit ∙ d.2))).entries
+    rw (← c.self.view_is, c.store.ensures.entry, c.kept.ensures, append_assoc c.self.inside.diary _ _, d.0)
+    (roots_shaded c.self.invariant frame held _ c.store.ensures.was d.1 (rw head at (sym bit ∙ d.2))).entries
 
 pub returns-then-must_mark-clause-held : goal.returns-then-must_mark-clause-held
 returns-then-must_mark-clause-held g c = let entries = rw (← c.self.view_is) at (returns-then-must_mark-clause-entries g c) in rw (← c.self.view_is) (keeps entries refl _)
@@ -65,9 +75,13 @@ invariant_of-self-2 g c =
     let held = rw (← c.self.view_is) at c.requires.at in
     let s = c.self.invariant.shows in
     let below = index_below c.self.invariant frame held in
-    let head : c.index-head.result.now ≡ first_at c.self.inside.firsts.items c.args.at.index = get_or_read c.self.inside.firsts.items _ _ (omega (arith, below, s.units.firsts_len)) c.index-head.ensures 0 in
-    let bit : c.index.result.now ≡ get_or c.self.inside.marked.items c.index-head.result.now false = get_or_read c.self.inside.marked.items _ _ (omega (arith, head, s.units.in_range c.args.at.index, s.work.marked_len)) c.index.ensures false in
-    rw (c.store-2.ensures.entry, c.store-2.ensures.bits) (roots_plain c.self.invariant frame held _ _ c.store-2.ensures.was (λ o m. rw head at (sym bit ∙ need_not _ _ _ _ c.must_mark.ensures c.if-must_mark.false o m))).plain
+    let head : c.index-head.result.now ≡ first_at c.self.inside.firsts.items c.args.at.index =
+    get_or_read c.self.inside.firsts.items _ _ (omega (arith, below, s.units.firsts_len)) c.index-head.ensures 0 in
+    let bit : c.index.result.now ≡ get_or c.self.inside.marked.items c.index-head.result.now false =
+    get_or_read c.self.inside.marked.items _ _ (omega (arith, head, s.units.in_range c.args.at.index, s.work.marked_len)) c.index.ensures false in
+    rw (c.store-2.ensures.entry, c.store-2.ensures.bits)
+    (roots_plain c.self.invariant frame held _ _ c.store-2.ensures.was
+    (λ o m. rw head at (sym bit ∙ need_not _ _ _ _ c.must_mark.ensures c.if-must_mark.false o m))).plain
 
 pub returns-clause-entries : goal.returns-clause-entries
 returns-clause-entries g c =
@@ -75,9 +89,13 @@ returns-clause-entries g c =
     let held = rw (← c.self.view_is) at c.requires.at in
     let s = c.self.invariant.shows in
     let below = index_below c.self.invariant frame held in
-    let head : c.index-head.result.now ≡ first_at c.self.inside.firsts.items c.args.at.index = get_or_read c.self.inside.firsts.items _ _ (omega (arith, below, s.units.firsts_len)) c.index-head.ensures 0 in
-    let bit : c.index.result.now ≡ get_or c.self.inside.marked.items c.index-head.result.now false = get_or_read c.self.inside.marked.items _ _ (omega (arith, head, s.units.in_range c.args.at.index, s.work.marked_len)) c.index.ensures false in
-    rw (← c.self.view_is, c.store-2.ensures.entry) (roots_plain c.self.invariant frame held _ _ c.store-2.ensures.was (λ o m. rw head at (sym bit ∙ need_not _ _ _ _ c.must_mark.ensures c.if-must_mark.false o m))).entries
+    let head : c.index-head.result.now ≡ first_at c.self.inside.firsts.items c.args.at.index =
+    get_or_read c.self.inside.firsts.items _ _ (omega (arith, below, s.units.firsts_len)) c.index-head.ensures 0 in
+    let bit : c.index.result.now ≡ get_or c.self.inside.marked.items c.index-head.result.now false =
+    get_or_read c.self.inside.marked.items _ _ (omega (arith, head, s.units.in_range c.args.at.index, s.work.marked_len)) c.index.ensures false in
+    rw (← c.self.view_is, c.store-2.ensures.entry)
+    (roots_plain c.self.invariant frame held _ _ c.store-2.ensures.was
+    (λ o m. rw head at (sym bit ∙ need_not _ _ _ _ c.must_mark.ensures c.if-must_mark.false o m))).entries
 
 pub returns-clause-held : goal.returns-clause-held
 returns-clause-held g c = let entries = rw (← c.self.view_is) at (returns-clause-entries g c) in rw (← c.self.view_is) (keeps entries refl _)

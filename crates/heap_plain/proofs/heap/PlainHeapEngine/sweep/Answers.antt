@@ -35,7 +35,9 @@ invariant_of-self-then-self-len g c =
     let len : length (removed_names c.self.inside.names.items c.self.inside.lives.items c.self.inside.swept c.find_removed-looked.result.0) ≡ c.find_removed-looked.result.1 =
     ap (λ (xs : List Name). length xs) (sym f.found) ∙ length-take-le _ _ (omega (arith, f.room, c.find_removed-looked.auto.found)) in
     let listed = rw (c.deref-3.ensures.value, c.deref-4.ensures.value, c.deref-5.ensures.value, c.deref-6.ensures.value) at c.list_units-self-inside.ensures in
-    rw (c.sweep-then-self-len.ensures, f.found) (sweeps_more c.self.invariant c.in-Gathering.is f.within f.few f.range len (omega (arith, g.S.Shape.lawful.few_items)) listed (omega (arith, c.if-self-len.true, c.len.ensures, c.self.inside.lives.ok.0))).plain
+    rw (c.sweep-then-self-len.ensures, f.found)
+    (sweeps_more c.self.invariant c.in-Gathering.is f.within f.few f.range len (omega (arith, g.S.Shape.lawful.few_items)) listed
+    (omega (arith, c.if-self-len.true, c.len.ensures, c.self.inside.lives.ok.0))).plain
 
 pub returns-then-self-len-clause-entries : goal.returns-then-self-len-clause-entries
 returns-then-self-len-clause-entries g c =
@@ -43,7 +45,9 @@ returns-then-self-len-clause-entries g c =
     let len : length (removed_names c.self.inside.names.items c.self.inside.lives.items c.self.inside.swept c.find_removed-looked.result.0) ≡ c.find_removed-looked.result.1 =
     ap (λ (xs : List Name). length xs) (sym f.found) ∙ length-take-le _ _ (omega (arith, f.room, c.find_removed-looked.auto.found)) in
     let listed = rw (c.deref-3.ensures.value, c.deref-4.ensures.value, c.deref-5.ensures.value, c.deref-6.ensures.value) at c.list_units-self-inside.ensures in
-    rw (← c.self.view_is, c.sweep-then-self-len.ensures, f.found) (sweeps_more c.self.invariant c.in-Gathering.is f.within f.few f.range len (omega (arith, g.S.Shape.lawful.few_items)) listed (omega (arith, c.if-self-len.true, c.len.ensures, c.self.inside.lives.ok.0))).entries
+    rw (← c.self.view_is, c.sweep-then-self-len.ensures, f.found)
+    (sweeps_more c.self.invariant c.in-Gathering.is f.within f.few f.range len (omega (arith, g.S.Shape.lawful.few_items)) listed
+    (omega (arith, c.if-self-len.true, c.len.ensures, c.self.inside.lives.ok.0))).entries
 
 pub returns-then-self-len-clause-held : goal.returns-then-self-len-clause-held
 returns-then-self-len-clause-held g c = let entries = rw (← c.self.view_is) at (returns-then-self-len-clause-entries g c) in rw (← c.self.view_is) (keeps entries refl _)
@@ -54,7 +58,9 @@ invariant_of-self-2 g c =
     let len : length (removed_names c.self.inside.names.items c.self.inside.lives.items c.self.inside.swept c.find_removed-looked.result.0) ≡ c.find_removed-looked.result.1 =
     ap (λ (xs : List Name). length xs) (sym f.found) ∙ length-take-le _ _ (omega (arith, f.room, c.find_removed-looked.auto.found)) in
     let listed = rw (c.deref-3.ensures.value, c.deref-4.ensures.value, c.deref-5.ensures.value, c.deref-6.ensures.value) at c.list_units-self-inside.ensures in
-    rw (c.sweep-2.ensures, f.found) (sweeps_all c.self.invariant c.in-Gathering.is f.within f.few f.range len (omega (arith, g.S.Shape.lawful.few_items)) listed (omega (arith, c.if-self-len.false, c.len.ensures, c.self.inside.lives.ok.0))).plain
+    rw (c.sweep-2.ensures, f.found)
+    (sweeps_all c.self.invariant c.in-Gathering.is f.within f.few f.range len (omega (arith, g.S.Shape.lawful.few_items)) listed
+    (omega (arith, c.if-self-len.false, c.len.ensures, c.self.inside.lives.ok.0))).plain
 
 pub returns-clause-entries : goal.returns-clause-entries
 returns-clause-entries g c =
@@ -62,7 +68,9 @@ returns-clause-entries g c =
     let len : length (removed_names c.self.inside.names.items c.self.inside.lives.items c.self.inside.swept c.find_removed-looked.result.0) ≡ c.find_removed-looked.result.1 =
     ap (λ (xs : List Name). length xs) (sym f.found) ∙ length-take-le _ _ (omega (arith, f.room, c.find_removed-looked.auto.found)) in
     let listed = rw (c.deref-3.ensures.value, c.deref-4.ensures.value, c.deref-5.ensures.value, c.deref-6.ensures.value) at c.list_units-self-inside.ensures in
-    rw (← c.self.view_is, c.sweep-2.ensures, f.found) (sweeps_all c.self.invariant c.in-Gathering.is f.within f.few f.range len (omega (arith, g.S.Shape.lawful.few_items)) listed (omega (arith, c.if-self-len.false, c.len.ensures, c.self.inside.lives.ok.0))).entries
+    rw (← c.self.view_is, c.sweep-2.ensures, f.found)
+    (sweeps_all c.self.invariant c.in-Gathering.is f.within f.few f.range len (omega (arith, g.S.Shape.lawful.few_items)) listed
+    (omega (arith, c.if-self-len.false, c.len.ensures, c.self.inside.lives.ok.0))).entries
 
 pub returns-clause-held : goal.returns-clause-held
 returns-clause-held g c = let entries = rw (← c.self.view_is) at (returns-clause-entries g c) in rw (← c.self.view_is) (keeps entries refl _)

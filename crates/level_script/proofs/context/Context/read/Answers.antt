@@ -26,4 +26,6 @@ returns-in-Ok c =
     subst P (sym (text_turn c.args.number c.args.self.now c.args.line.now (is_utf8-from_IsUtf8 c.args.line.now c.in-Ok.ensures.cases.1))) c.words-in-Ok.ensures
 
 pub returns-in-Err : goal.returns-in-Err
-returns-in-Err c = ap (λ b. if_said c.args.number c.args.self.now (cond b (said_by_words c.args.self.now.in_header (line_words c.args.line.now)) (Err cause.Utf8))) (not_utf8 c.args.line.now c.in-Err.ensures.cases.0)
+returns-in-Err c =
+    ap (λ b. if_said c.args.number c.args.self.now (cond b (said_by_words c.args.self.now.in_header (line_words c.args.line.now)) (Err cause.Utf8)))
+    (not_utf8 c.args.line.now c.in-Err.ensures.cases.0)

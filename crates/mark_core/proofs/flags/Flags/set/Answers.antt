@@ -11,7 +11,7 @@ overflow_add-self c =
     let bits : length (members inside.present inside.stamps.items) ≡ length inside.stamps.items = length-map inside.stamps.items _ in
     let lt : c.args.i < length (members inside.present inside.stamps.items) = rw c.self.view_is c.requires in
     let out : get_or (members inside.present inside.stamps.items) c.args.i false ≡ false =
-        ap (λ (xs : _). get_or xs c.args.i false) c.self.view_is ∙ (sym c.get.ensures ∙ (differs _ _ c.if-get-b.false ∙ ap not c.if-b.true)) in
+    ap (λ (xs : _). get_or xs c.args.i false) c.self.view_is ∙ (sym c.get.ensures ∙ (differs _ _ c.if-get-b.false ∙ ap not c.if-b.true)) in
     let room = room_in (members inside.present inside.stamps.items) c.args.i out lt in
     let counted = c.self.invariant.counted in
     let few = c.self.invariant.few in
@@ -23,7 +23,7 @@ invariant_of-self c =
     let bits : length (members inside.present inside.stamps.items) ≡ length inside.stamps.items = length-map inside.stamps.items _ in
     let lt : c.args.i < length (members inside.present inside.stamps.items) = rw c.self.view_is c.requires in
     let out : get_or (members inside.present inside.stamps.items) c.args.i false ≡ false =
-        ap (λ (xs : _). get_or xs c.args.i false) c.self.view_is ∙ (sym c.get.ensures ∙ (differs _ _ c.if-get-b.false ∙ ap not c.if-b.true)) in
+    ap (λ (xs : _). get_or xs c.args.i false) c.self.view_is ∙ (sym c.get.ensures ∙ (differs _ _ c.if-get-b.false ∙ ap not c.if-b.true)) in
     put_in inside.present inside.count inside.stamps.items c.args.i (omega arith) out c.self.invariant
 
 pub overflow_sub-self : goal.overflow_sub-self
@@ -31,7 +31,7 @@ overflow_sub-self c =
     let inside = c.self.inside in
     let lt : c.args.i < length (members inside.present inside.stamps.items) = rw c.self.view_is c.requires in
     let on : get_or (members inside.present inside.stamps.items) c.args.i false ≡ true =
-        ap (λ (xs : _). get_or xs c.args.i false) c.self.view_is ∙ (sym c.get.ensures ∙ (differs _ _ c.if-get-b.false ∙ ap not c.if-b.false)) in
+    ap (λ (xs : _). get_or xs c.args.i false) c.self.view_is ∙ (sym c.get.ensures ∙ (differs _ _ c.if-get-b.false ∙ ap not c.if-b.false)) in
     let some = some_in (members inside.present inside.stamps.items) c.args.i on lt in
     let counted = c.self.invariant.counted in
     omega arith
@@ -42,7 +42,7 @@ invariant_of-self-else-b c =
     let bits : length (members inside.present inside.stamps.items) ≡ length inside.stamps.items = length-map inside.stamps.items _ in
     let lt : c.args.i < length (members inside.present inside.stamps.items) = rw c.self.view_is c.requires in
     let on : get_or (members inside.present inside.stamps.items) c.args.i false ≡ true =
-        ap (λ (xs : _). get_or xs c.args.i false) c.self.view_is ∙ (sym c.get.ensures ∙ (differs _ _ c.if-get-b.false ∙ ap not c.if-b.false)) in
+    ap (λ (xs : _). get_or xs c.args.i false) c.self.view_is ∙ (sym c.get.ensures ∙ (differs _ _ c.if-get-b.false ∙ ap not c.if-b.false)) in
     take_out inside.present inside.count inside.stamps.items c.args.i (omega arith) on c.self.invariant
 
 pub returns-then-get-b : goal.returns-then-get-b
@@ -57,4 +57,4 @@ pub returns-else-b : goal.returns-else-b
 returns-else-b c =
     let inside = c.self.inside in
     old_stamp inside.present inside.stamps.items c.args.i c.self.invariant.positive
-        ∙ (ap (λ (xs : _). set xs c.args.i false) c.self.view_is ∙ ap (λ (x : Bool). set c.args.self.now c.args.i x) (sym c.if-b.false))
+    ∙ (ap (λ (xs : _). set xs c.args.i false) c.self.view_is ∙ ap (λ (x : Bool). set c.args.self.now c.args.i x) (sym c.if-b.false))

@@ -8,7 +8,7 @@ use Rattle.mark_core.proofs.machine.Machine.begin.Goals as goal
 pub returns-then-frames-eq0-clause-state : goal.returns-then-frames-eq0-clause-state
 returns-then-frames-eq0-clause-state c =
     let none : (frames (sizes c.args.self.now.shape) (state c.args.self.now) == 0) ≡ true =
-        eq-eqb (frames (sizes c.args.self.now.shape) (state c.args.self.now)) 0 (sym c.frames.ensures.frames ∙ c.if-frames-eq0.true) in
+    eq-eqb (frames (sizes c.args.self.now.shape) (state c.args.self.now)) 0 (sym c.frames.ensures.frames ∙ c.if-frames-eq0.true) in
     let flipped = c.flip.ensures.state ∙ ap (λ (x : Core). record x { parity = not x.parity; marked = λ u. not (x.marked u) }) c.set_phase.ensures.state in
     let forgot = c.forget_scanned.ensures.state ∙ ap (λ (x : Core). record x { scanned = λ u. false }) flipped in
     c.set_job.ensures.state ∙ (ap (λ (x : Core). record x { job = Roots 0 }) forgot ∙ ap (λ (b : Bool). begins_by b (state c.args.self.now)) (sym none))

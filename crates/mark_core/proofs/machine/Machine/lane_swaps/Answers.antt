@@ -6,8 +6,8 @@ pub gain-requires-clause-unit : goal.gain-requires-clause-unit
 gain-requires-clause-unit c =
     let may = rw (← c.in-CellOf.ensures) at c.requires.may in
     rw c.set_target.ensures.shape
-        (target_in (sizes c.args.self.now.shape) (state c.args.self.now) c.args.lane c.in-CellOf.unit c.in-CellOf.cell c.target-old.result may.1.0
-          may.1.1 c.target-old.ensures c.requires.lawful)
+    (target_in (sizes c.args.self.now.shape) (state c.args.self.now) c.args.lane c.in-CellOf.unit c.in-CellOf.cell c.target-old.result may.1.0
+    may.1.1 c.target-old.ensures c.requires.lawful)
 
 pub gain-requires-in-StrongOf-clause-unit : goal.gain-requires-in-StrongOf-clause-unit
 gain-requires-in-StrongOf-clause-unit c =

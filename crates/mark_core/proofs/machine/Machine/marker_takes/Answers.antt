@@ -19,9 +19,9 @@ loop-i-preserved c =
     record {
       place =
           c.take_bit.ensures.state
-            ∙ (ap taken was
-              ∙ ap (λ (f : ℕ → Place). record (state c.args.self.now) { place = f })
-                (takes_more c.args.m c.args.row first c.loop-i.i (state c.args.self.now).place));
+          ∙ (ap taken was
+          ∙ ap (λ (f : ℕ → Place). record (state c.args.self.now) { place = f })
+          (takes_more c.args.m c.args.row first c.loop-i.i (state c.args.self.now).place));
       shape = c.take_bit.ensures.shape ∙ c.loop-i.invariant.shape;
     }
 

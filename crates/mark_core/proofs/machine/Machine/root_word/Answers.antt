@@ -12,7 +12,7 @@ loop-i-init c = refl
 pub with_bit-bits-requires-clause-word : goal.with_bit-bits-requires-clause-word
 with_bit-bits-requires-clause-word c =
     subst (λ (w : ℕ). w < 2 ^ c.loop-i.i) (sym c.loop-i.invariant)
-      (bits-below (λ k. root_bit (sizes c.args.self.now.shape) (state c.args.self.now) (64 * c.args.word + k)) c.loop-i.i)
+    (bits-below (λ k. root_bit (sizes c.args.self.now.shape) (state c.args.self.now) (64 * c.args.word + k)) c.loop-i.i)
 
 pub loop-i-preserved : goal.loop-i-preserved
 loop-i-preserved c =

@@ -18,17 +18,18 @@ returns-else-z-eq0-clause-state c =
     let next : c.end_of.result - c.shape-z.result.cells ≡ (c.args.unit + 1) * c.args.self.now.shape.cells - c.args.self.now.shape.cells = let e = c.end_of.ensures in omega arith in
     c.set_scan.ensures.state
     ∙ (ap
-        (λ (z : Shape).
-          record (state c.put.new.self)
-            { scan =
-              set_at (state c.put.new.self).scan c.args.m
-                (scan_of z (Some (record { unit = c.args.unit; next = c.end_of.result - c.shape-z.result.cells; found = None }))) })
-        c.put.ensures.shape
+    (λ (z : Shape).
+    record (state c.put.new.self) {
+      scan =
+          set_at (state c.put.new.self).scan c.args.m
+          (scan_of z (Some (record { unit = c.args.unit; next = c.end_of.result - c.shape-z.result.cells; found = None })));
+    })
+    c.put.ensures.shape
     ∙ (ap
-        (λ (x : Core).
-          record x
-            { scan =
-              set_at x.scan c.args.m
-                (scan_of c.args.self.now.shape (Some (record { unit = c.args.unit; next = c.end_of.result - c.shape-z.result.cells; found = None })))
-                }) c.put.ensures.state
+    (λ (x : Core).
+    record x {
+      scan =
+          set_at x.scan c.args.m
+          (scan_of c.args.self.now.shape (Some (record { unit = c.args.unit; next = c.end_of.result - c.shape-z.result.cells; found = None })));
+    }) c.put.ensures.state
     ∙ sym (starts_some c.args.self.now.shape (state c.args.self.now) c.args.m c.args.unit (c.end_of.result - c.shape-z.result.cells) (omega arith) next)))

@@ -13,6 +13,6 @@ returns c =
     let small : c.args.m < length i.stacks.items = rw (← c.self.view_is) at c.requires in
     let at : get_or i.stacks.items c.args.m [] ≡ c.index.result.now = get_or_default i.stacks.items c.args.m [] c.index.result.now small ∙ sym c.index.ensures in
     rw (← c.self.view_is)
-        (none_tells (λ u. same_place (place_in (record { places = i.places.items; markers = length i.stacks.items }) u) (OnStack c.args.m))
-          (get_or i.stacks.items c.args.m []) (length i.places.items) c.count.result (c.self.invariant.lens c.args.m small)
-          (λ u. c.self.invariant.stack_is c.args.m u small) (c.count.ensures ∙ ap count_in (sym at)))
+    (none_tells (λ u. same_place (place_in (record { places = i.places.items; markers = length i.stacks.items }) u) (OnStack c.args.m))
+    (get_or i.stacks.items c.args.m []) (length i.places.items) c.count.result (c.self.invariant.lens c.args.m small)
+    (λ u. c.self.invariant.stack_is c.args.m u small) (c.count.ensures ∙ ap count_in (sym at)))

@@ -18,7 +18,7 @@ set-requires c =
     let lt : c.args.u < length i.places.items = rw (← c.self.view_is) at c.requires in
     let small = c.self.invariant.of_markers c.args.u c.in-OnStack.m (get_or_default i.places.items c.args.u Nowhere c.index.result.now lt ∙ (sym c.index.ensures ∙ c.in-OnStack.is)) in
     let flags : get_or i.stacks.items c.in-OnStack.m [] ≡ c.index_mut-in-OnStack.result.now =
-        get_or_default i.stacks.items c.in-OnStack.m [] c.index_mut-in-OnStack.result.now small ∙ sym c.index_mut-in-OnStack.ensures.value in
+    get_or_default i.stacks.items c.in-OnStack.m [] c.index_mut-in-OnStack.result.now small ∙ sym c.index_mut-in-OnStack.ensures.value in
     let same : length (get_or i.stacks.items c.in-OnStack.m []) ≡ length i.places.items = c.self.invariant.lens c.in-OnStack.m small in
     subst (λ (xs : List Bool). c.args.u < length xs) flags (omega arith)
 
@@ -29,7 +29,7 @@ invariant_of-self c =
     let at = get_or_default i.places.items c.args.u Nowhere c.index.result.now lt ∙ (sym c.index.ensures ∙ c.in-OnStack.is) in
     let small = c.self.invariant.of_markers c.args.u c.in-OnStack.m at in
     let flags : get_or i.stacks.items c.in-OnStack.m [] ≡ c.index_mut-in-OnStack.result.now =
-        get_or_default i.stacks.items c.in-OnStack.m [] c.index_mut-in-OnStack.result.now small ∙ sym c.index_mut-in-OnStack.ensures.value in
+    get_or_default i.stacks.items c.in-OnStack.m [] c.index_mut-in-OnStack.result.now small ∙ sym c.index_mut-in-OnStack.ensures.value in
     stack_left i.places.items i.stacks.items c.args.u c.in-OnStack.m c.set.new.self lt at (c.set.ensures ∙ ap (λ (xs : List Bool). set xs c.args.u false) (sym flags)) c.self.invariant
 
 pub invariant_of-self-in_default : goal.invariant_of-self-in_default
