@@ -270,7 +270,7 @@ module _ {z : Sizes} {p : Parts} {h new : List Entry} {cleared marked : List Boo
       marks = λ e. subst (λ (bits : List Bool). MarksShow p.objects (after h).units bits heads heads end.marks.kept end.marks.fresh end.marks.scanned) (sym keeps.bits) ran.marks;
     };
     stock = s.stock;
-    ends = record { removed = removed_marking; gone = s.gone; order = s.order; gathers = λ e. absurd cc; queue = λ e. absurd cc; none_asked = λ ne. ran.asked };
+    ends = record { removed = removed_marking; gone = s.gone; room = s.room; gathers = λ e. absurd cc; queue = λ e. absurd cc; none_asked = λ ne. ran.asked };
   }
 
   whole : new ≡ h ++ started_entry ∷ notes

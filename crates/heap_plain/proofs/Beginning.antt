@@ -40,11 +40,7 @@ new_parts lanes quota slots = record {
   ends = record {
     left = 0;
     swept = 0;
-    order = replicate (lanes * quota) 0;
-    listed = 0;
-    begun = 0;
-    from = 0;
-    kept = 0;
+    queue = record { room = lanes * quota; todo = []; ring = [] };
     polls = replicate (lanes * quota) 0;
     waiting = replicate (lanes * quota) 0;
     done = None;
@@ -173,7 +169,7 @@ begins z lawful = record {
         left_few = λ e. omega arith;
       };
       gone = record { waiting_len = length-replicate _ _; each = λ i e. absurd (none_gone _ i e); all = λ u n h. absurd h };
-      order = record { len = length-replicate _ _; listed_few = omega arith; begun_few = omega arith; from_few = omega arith; kept_few = omega arith; early = λ e. refl };
+      room = refl;
       gathers = λ e. absurd cc;
       queue = λ e. record { todo = []; ring = []; ready = None; todo_at = tt; ring_at = tt; ready_at = tt; queue = queue_start (gone_world [] [] []) refl refl refl (λ r a. absurd a) (λ n. refl) };
       none_asked = λ ne. refl;

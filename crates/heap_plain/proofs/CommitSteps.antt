@@ -429,7 +429,7 @@ module _ {z : Sizes} {p : Parts} {h : List Entry} {lives : List Life} (was : IsP
         gate = record (p.gate) { phase = Gathering };
         objects = o';
         ends =
-            record { left = 0; swept = 0; order = p.order; listed = 0; begun = 0; from = 0; kept = 0; polls = polls; waiting = waiting; done = None };
+            record { left = 0; swept = 0; queue = record { room = p.queue.room; todo = []; ring = [] }; polls = polls; waiting = waiting; done = None };
       }) h (h ++ done_entry ∷ []) Collector (act.CommitGc commit.Done)
   commits = does Collector (act.CommitGc commit.Done) (act.CommitGc commit.Done ∷ []) was (refl, commits_alone commit.Done was (marking, black, open_none)) (may_commit, tt) record {
     gate = record { phase = refl; frames = s.frames };
@@ -442,7 +442,7 @@ module _ {z : Sizes} {p : Parts} {h : List Entry} {lives : List Life} (was : IsP
     ends = record {
       removed = removed_kept;
       gone = gone_kept;
-      order = record { len = s.order.len; listed_few = omega arith; begun_few = omega arith; from_few = omega arith; kept_few = omega arith; early = λ e. refl };
+      room = s.room;
       gathers = λ e. record { none_begun = refl; none_done = refl; listed_at = tt };
       queue = λ e. absurd cc;
       none_asked = λ ne. s.none_asked (λ e. let a = marking in cc);

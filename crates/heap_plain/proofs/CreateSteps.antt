@@ -614,7 +614,7 @@ module _ {z : Sizes} {p : Parts} {h : List Entry} {l m : ℕ} {more : List Kind}
         record {
           removed = removed_new;
           gone = gone_new;
-          order = s.order;
+          room = s.room;
           gathers = λ e. gather_more keeps_name (s.gathers e);
           queue = λ e. queue_more keeps_name (s.queue e);
           none_asked = s.none_asked;

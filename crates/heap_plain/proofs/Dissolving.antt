@@ -210,7 +210,7 @@ module _ {z : Sizes} {old : Shown} {lane : ℕ} {at : Name} {head count left : �
         gone =
             over (λ (o : Objects). GoneShow z o p.waiting (after h).removals (after h).last_removed)
             (gone_left k.names k.units i.midway.apart head i.front i.stands n last.1 next_to long some head_within k.gone);
-        order = k.order;
+        room = k.room;
         gathers = k.gathers;
         queue = k.queue;
         none_asked = k.none_asked;

@@ -4,6 +4,7 @@ pub mod WorldFacts
 pub mod Counting
 pub mod Resting
 pub mod Entries
+pub mod Waits
 pub mod Queueing
 pub mod Listings
 pub mod Finding

@@ -1,13 +1,12 @@
 -- The steps of destruction that begin and that ask.
-use Rattle.std.proofs.Common.{◌≡◌, ◌≢◌, ℕ, ◌+◌, ◌-◌, ◌<◌, ◌≤◌, ◌==◌, ◌&&◌, ◌⊎◌, min, refl, sym, subst, subst₂, ap, ◌∙◌, inl, inr, zero, suc, arith, Bool, cond, if◌then◌else◌, true, false, not, List, [], ◌∷◌, ◌++◌, append-nil, append_assoc, length, map, find, take, drop, get_or, count_by, Option, Some, None}
+use Rattle.std.proofs.Common.{◌≡◌, ◌≢◌, ℕ, ◌+◌, ◌-◌, ◌<◌, ◌==◌, ◌&&◌, ◌⊎◌, min, refl, sym, subst, subst₂, ap, ◌∙◌, inl, inr, zero, suc, arith, Bool, cond, if◌then◌else◌, true, false, not, List, [], ◌∷◌, ◌++◌, length, map, find, drop, get_or, count_by, Option, Some, None}
 use Rattle.std.specs.List.{list_all}
 use Rattle.std.specs.Option.{option_map_or}
 use Rattle.std.proofs.Math.ListN.{set}
 use Rattle.std.proofs.Math.Logic.{dite}
 use Rattle.std.proofs.Math.Decide.{ℕ_discrete}
-use Rattle.std.proofs.lemmas.Bool.{eqb-true, eqb-false}
 use Rattle.std.proofs.lemmas.Bool.Decides.{nat_tests}
-use Rattle.std.proofs.lemmas.List.{length-set, get_or-set_same, get_or-set_other, get_or-take, length-take-le, take_more, take_more_set, drop_more, drop_all, drop-take, drop-set-lt}
+use Rattle.std.proofs.lemmas.List.{length-set, get_or-set_same, get_or-set_other}
 use Rattle.world_model.specs.Sizes.{Sizes, item_count}
 use Rattle.world_model.specs.NameLists.{same_name, has, members, first_member}
 use Rattle.world_model.specs.World.{World, Removal, Removed as AtRemoved, Begun as AtBegun, Finished as AtFinished, is_at, live_count, polls_of, destruction_order}
@@ -26,34 +25,31 @@ use Rattle.heap_plain.specs.Types.act
 use Rattle.heap_plain.specs.declared.life.Life.{Life}
 use Rattle.heap_plain.specs.declared.life.Life.TheVariants.{Free, Begun, Finished}
 use Rattle.heap_plain.specs.Parts.{Parts, name_at, life_at, first_at, is_gone, stage_of}
-use Rattle.heap_plain.specs.Purging.{turned, next_poll, finished_unit, asked_acts}
+use Rattle.heap_plain.specs.Queue.{Queued, Begins}
+use Rattle.heap_plain.specs.Purging.{next_poll, finished_unit, asked_acts}
 use Rattle.heap_plain.specs.Lists.{Distinct}
 use Rattle.heap_plain.specs.Units.{AreLinked}
-use Rattle.heap_plain.specs.Destroying.{RemovedShow, removal_at, GoneShow, LiesAt, OrderShows, QueueShows, AreNamed, ReadyAt, gone_world, todo_of, ring_of, at_end, still_there}
+use Rattle.heap_plain.specs.Destroying.{RemovedShow, removal_at, GoneShow, LiesAt, QueueShows, AreNamed, ReadyAt, gone_world, at_end, still_there}
 use Rattle.heap_plain.specs.Plain.{ShowsWorld, Shows}
 use Rattle.heap_plain.proofs.GarbageSteps.{garbage_fewer}
 use Rattle.heap_plain.proofs.WorldFacts.{differs, different_distinct}
 use Rattle.heap_plain.proofs.Counting.{count_alike}
 use Rattle.heap_plain.proofs.Cells.{cells_less}
-use Rattle.heap_plain.proofs.Queueing.{named_append, named_first, named_none, all_begun}
+use Rattle.heap_plain.proofs.Queueing.{named_append, named_first, named_none}
 use Rattle.heap_plain.proofs.SweepSteps.{name_among}
 use Rattle.heap_plain.proofs.Gathering.{same_unit, distinct_unit}
 use Rattle.heap_plain.proofs.Restaging.{SameLives, lives_same, lives_set, gone_below, units_lives, free_lives, changed, count_stays, there_changed, removed_changed, gone_changed, gone_index}
 
 -- ---- the vectors after a step
 
-purged_shows : {z : Sizes} {p : Parts} {w : World} {kept fresh black : List Name} {was asked : Option Name} {ls : List Life} {ps ws order : List ℕ}
-    {listed begun from kept_now : ℕ} {done : Option ℕ} {rs : List Removal}
-    → ShowsWorld z p w kept fresh black was → p.phase ≡ Idle → SameLives p.lives ls → RemovedShow z p.names ls ps p.left p.swept p.phase rs w.found w.swept
+purged_shows : {z : Sizes} {p : Parts} {w : World} {kept fresh black : List Name} {was asked : Option Name} {ls : List Life} {ps ws : List ℕ}
+    {next : Queued} {done : Option ℕ} {rs : List Removal}
+    → ShowsWorld z p w kept fresh black was → p.phase ≡ Idle → SameLives p.lives ls → RemovedShow z p.names ls ps p.left p.swept Idle rs w.found w.swept
     → GoneShow z (record (p.objects) { lives = ls }) ws rs w.last_removed → ((lane : ℕ) → count_by (λ r. r.name.lane == lane) rs ≡ count_by (λ r. r.name.lane == lane) w.removals)
-    → OrderShows z order listed begun from kept_now → QueueShows p.names order listed begun from kept_now done rs w.last_removed w.found asked
-    → ShowsWorld z
-    (record p {
-      objects = record (p.objects) { lives = ls };
-      ends =
-          record (p.ends) { order = order; listed = listed; begun = begun; from = from; kept = kept_now; polls = ps; waiting = ws; done = done };
-    }) (record w { removals = rs }) kept fresh black asked
-purged_shows {w = w} k idle same removed gone counts order queue = record {
+    → next.room ≡ p.queue.room → QueueShows p.names next done rs w.last_removed w.found asked
+    → ShowsWorld z (record p { objects = record (p.objects) { lives = ls }; ends = record (p.ends) { queue = next; polls = ps; waiting = ws; done = done } })
+    (record w { removals = rs }) kept fresh black asked
+purged_shows {z} {p} {w} {ls = ls} {ps} {rs = rs} k idle same removed gone counts room queue = record {
   gate = k.gate;
   objects = record { names = k.names; units = units_lives _ same k.units };
   rows = record {
@@ -64,7 +60,14 @@ purged_shows {w = w} k idle same removed gone counts order queue = record {
   garbage = garbage_fewer (λ i n a. record { name = a.name; life = same.was_live i a.life }) k.garbage;
   colours = record { work = k.work; idle = k.idle; marks = λ e. absurd (let a = idle in cc) };
   stock = record { made = k.made; free = free_lives same (λ lane. ap (λ (c : ℕ). live_count w lane + c) (counts lane)) k.free };
-  ends = record { removed = removed; gone = gone; order = order; gathers = λ e. absurd (let a = idle in cc); queue = λ e. queue; none_asked = λ ne. absurd (ne idle) };
+  ends = record {
+    removed = subst (λ (phase : Phase). RemovedShow z p.names ls ps p.left p.swept phase rs w.found w.swept) (sym idle) removed;
+    gone = gone;
+    room = room ∙ k.room;
+    gathers = λ e. absurd (let a = idle in cc);
+    queue = λ e. queue;
+    none_asked = λ ne. absurd (ne idle);
+  };
 }
 
 -- one that passed does not any more
@@ -127,44 +130,6 @@ find_named (x ∷ rs) r d a = go (same_name r.name x.name) refl a (find_named rs
 next_poll_is : (n : ℕ) → next_poll n ≡ min (n + 1) 65535
 next_poll_is n = grind (arith, nat_tests)
 
--- ---- a new round
-
--- The queue after the turn. Where its next place is its end, nothing is kept.
-pub record Turned (z : Sizes) (names : List (Option Name)) (order : List ℕ) (ring : List Name) (end from kept : ℕ) : Type 0 where
-  pub places : OrderShows z order end end from kept
-  pub named : AreNamed names (ring_of order end from kept) ring
-  pub empty : from ≡ end → kept ≡ 0
-
-turns : {z : Sizes} {names : List (Option Name)} {order : List ℕ} {ring : List Name} (listed begun from kept : ℕ)
-    → OrderShows z order listed begun from kept → listed ≤ begun → AreNamed names (ring_of order begun from kept) ring
-    → Turned z names order ring (turned begun from kept).0 (turned begun from kept).1 (turned begun from kept).2
-turns {z} {names} {order} {ring} listed begun from kept o all h = go (from == begun) refl
-  where
-    go : (b : Bool) → (from == begun) ≡ b
-        → Turned z names order ring (cond {A = ℕ × ℕ × ℕ} b (kept, 0, 0) (begun, from, kept)).0
-        (cond {A = ℕ × ℕ × ℕ} b (kept, 0, 0) (begun, from, kept)).1 (cond {A = ℕ × ℕ × ℕ} b (kept, 0, 0) (begun, from, kept)).2
-    go true e =
-        let same = eqb-true from begun e in
-        let past : drop from (take begun order) ≡ [] = drop_all from (take begun order) (omega (arith, length-take-le begun order (omega (arith, o.len, o.listed_few, o.begun_few)))) in
-        record {
-          places =
-              record {
-                len = o.len;
-                listed_few = omega (arith, o.kept_few, o.from_few, o.begun_few, o.listed_few);
-                begun_few = omega arith;
-                from_few = omega arith;
-                kept_few = omega arith;
-                early = λ e. refl;
-              };
-          named = subst (λ (at : List ℕ). AreNamed names at ring) (ap (λ (at : List ℕ). at ++ take kept order) past ∙ sym (append-nil (take kept order))) h;
-          empty = λ e. refl;
-        }
-    go false e = record {
-      places = record { len = o.len; listed_few = omega (arith, o.begun_few, o.listed_few); begun_few = omega arith; from_few = o.from_few; kept_few = o.kept_few; early = λ e. absurd (omega arith) };
-      named = h;
-      empty = λ same. absurd (eqb-false from begun e same);
-    }
-
 -- a legal history between two steps of destruction, which the vectors show
 pub record IsAmid (z : Sizes) (p : Parts) (h : List Entry) : Type 0 where
   pub legal : Legal z h
@@ -184,7 +149,7 @@ module _ {z : Sizes} {p : Parts} {h : List Entry} (amid : IsAmid z p h) (idle : 
   abbrev w0 : World
   w0 = gone_world w.removals w.last_removed w.found
 
-  abbrev q : QueueShows p.names p.order p.listed p.begun p.from p.kept p.done w.removals w.last_removed w.found s.collector.asked
+  abbrev q : QueueShows p.names p.queue p.done w.removals w.last_removed w.found s.collector.asked
   q = k.queue idle
 
   at_idle : w.phase ≡ Idle
@@ -196,10 +161,6 @@ module _ {z : Sizes} {p : Parts} {h : List Entry} (amid : IsAmid z p h) (idle : 
   removed_idle : RemovedShow z p.names p.lives p.polls p.left p.swept Idle w.removals w.found w.swept
   removed_idle = subst (λ (phase : Phase). RemovedShow z p.names p.lives p.polls p.left p.swept phase w.removals w.found w.swept) idle k.removed
 
-  removed_back : {ls : List Life} {ps : List ℕ} {rs : List Removal} → RemovedShow z p.names ls ps p.left p.swept Idle rs w.found w.swept
-      → RemovedShow z p.names ls ps p.left p.swept p.phase rs w.found w.swept
-  removed_back {ls} {ps} {rs} r = subst (λ (phase : Phase). RemovedShow z p.names ls ps p.left p.swept phase rs w.found w.swept) (sym idle) r
-
   -- what holds of the removed objects of every history
   known : IsSound s
   known = sound z h amid.legal
@@ -209,19 +170,9 @@ module _ {z : Sizes} {p : Parts} {h : List Entry} (amid : IsAmid z p h) (idle : 
 
   -- ---- an object is begun
 
-  module _ (some : p.begun < p.listed) where
-    abbrev x : ℕ
-    x = get_or p.order p.begun 0
-
-    listed_len : length (take p.listed p.order) ≡ p.listed
-    listed_len = length-take-le p.listed p.order (omega (arith, k.order.listed_few, k.order.len))
-
-    todo_split : todo_of p.order p.listed p.begun ≡ x ∷ todo_of p.order p.listed (p.begun + 1)
-    todo_split = drop_more (take p.listed p.order) p.begun 0 (omega (arith, listed_len))
-        ∙ ap (λ (i : ℕ). i ∷ drop (p.begun + 1) (take p.listed p.order)) (get_or-take p.listed p.order p.begun 0 some)
-
-    pub first : (n : Name) × (rest : List Name) × (q.todo ≡ n ∷ rest) × (name_at p.names x ≡ Some n) × AreNamed p.names (todo_of p.order p.listed (p.begun + 1)) rest
-    first = named_first p.names x _ q.todo (subst (λ (at : List ℕ). AreNamed p.names at q.todo) todo_split q.todo_at)
+  module _ {x : ℕ} {next : Queued} (begins : Begins p.queue next x) where
+    pub first : (n : Name) × (rest : List Name) × (q.todo ≡ n ∷ rest) × (name_at p.names x ≡ Some n) × AreNamed p.names next.todo rest
+    first = named_first p.names x next.todo q.todo (subst (λ (at : List ℕ). AreNamed p.names at q.todo) begins.first q.todo_at)
 
     abbrev n : Name
     n = first.0
@@ -262,63 +213,26 @@ module _ {z : Sizes} {p : Parts} {h : List Entry} (amid : IsAmid z p h) (idle : 
     gone' = gone_changed same k.gone refl (there_changed n (λ r. record r { stage = AtBegun }) (λ r. refl) w.removals)
         (λ head u t. t.waits ∙ count_alike _ _ u (λ m a. ap not (sym (same_end m))))
 
-    none_from : p.from ≡ 0
-    none_from = k.order.early some
-
-    none_kept : p.kept ≡ 0
-    none_kept = omega (arith, none_from, k.order.kept_few)
-
-    order' : OrderShows z p.order p.listed (p.begun + 1) p.from p.kept
-    order' = record { len = k.order.len; listed_few = k.order.listed_few; begun_few = omega arith; from_few = omega (arith, k.order.from_few); kept_few = k.order.kept_few; early = λ e. none_from }
-
-    ring_more : ring_of p.order (p.begun + 1) p.from p.kept ≡ ring_of p.order p.begun p.from p.kept ++ x ∷ []
-    ring_more = (λ t. ring_of p.order (p.begun + 1) (none_from t) (none_kept t)) ∙ plain ∙ (λ t. ring_of p.order p.begun (sym none_from t) (sym none_kept t) ++ x ∷ [])
-      where
-        plain : take (p.begun + 1) p.order ++ [] ≡ (take p.begun p.order ++ []) ++ x ∷ []
-        plain = append-nil (take (p.begun + 1) p.order) ∙ take_more p.order p.begun 0 (omega (arith, k.order.len, k.order.listed_few))
-            ∙ ap (λ (at : List ℕ). at ++ x ∷ []) (sym (append-nil (take p.begun p.order)))
-
-    pub begin_named : name_at p.names x ≡ Some n
-    begin_named = first.3
-
-    pub begin_gone : is_gone (life_at p.lives x) ≡ true
-    begin_gone = gone_x
-
-    pub begin_name : Name
-    begin_name = n
-
     pub begin_may : MayBy z s Collector (act.Begun n)
     begin_may = record { finishes = amid.agreed; may = record { gathered = gathered; next = (queue_begin queue').0 } }
 
-    pub begin_shows : ShowsWorld z (record p { objects = record (p.objects) { lives = ls }; ends = record (p.ends) { begun = p.begun + 1 } })
+    pub begin_shows : ShowsWorld z (record p { objects = record (p.objects) { lives = ls }; ends = record (p.ends) { queue = next } })
         (at_stage w n AtBegun) s.marks.kept s.marks.fresh s.marks.scanned s.collector.asked
-    begin_shows = purged_shows k idle same (removed_back removed') gone' (λ lane. count_stays n (λ r. record r { stage = AtBegun }) (λ r. refl) lane w.removals) order' record {
+    begin_shows = purged_shows k idle same removed' gone' (λ lane. count_stays n (λ r. record r { stage = AtBegun }) (λ r. refl) lane w.removals) begins.room record {
       todo = first.1;
       ring = q.ring ++ n ∷ [];
       ready = q.ready;
       todo_at = first.4;
-      ring_at = subst (λ (at : List ℕ). AreNamed p.names at (q.ring ++ n ∷ [])) (sym ring_more) (named_append p.names _ _ _ _ q.ring_at (first.3, tt));
+      ring_at = subst (λ (at : List ℕ). AreNamed p.names at (q.ring ++ n ∷ [])) (sym begins.asked) (named_append p.names _ _ _ _ q.ring_at (first.3, tt));
       ready_at = q.ready_at;
       queue = (queue_begin queue').1;
     }
 
   -- ---- an object is asked
 
-  module _ (all : p.listed ≤ p.begun) (none : p.done ≡ None) (more : 0 < p.left) where
-    abbrev end : ℕ
-    end = (turned p.begun p.from p.kept).0
-
-    abbrev from : ℕ
-    from = (turned p.begun p.from p.kept).1
-
-    abbrev kept : ℕ
-    kept = (turned p.begun p.from p.kept).2
-
-    turn : Turned z p.names p.order q.ring end from kept
-    turn = turns p.listed p.begun p.from p.kept k.order all q.ring_at
-
+  module _ (all : p.queue.todo ≡ []) (none : p.done ≡ None) (more : 0 < p.left) where
     no_todo : q.todo ≡ []
-    no_todo = all_begun p.names p.order p.listed p.begun q.todo (omega (arith, k.order.len, k.order.listed_few)) all q.todo_at
+    no_todo = named_none p.names q.todo (subst (λ (at : List ℕ). AreNamed p.names at q.todo) all q.todo_at)
 
     no_ready : q.ready ≡ None
     no_ready = go q.ready (subst (λ (done : Option ℕ). ReadyAt p.names done q.ready) none q.ready_at)
@@ -336,26 +250,22 @@ module _ {z : Sizes} {p : Parts} {h : List Entry} (amid : IsAmid z p h) (idle : 
     some_ring : q.ring ≢ []
     some_ring = queue_least asks some_left
 
-    before_end : from < end
-    before_end = dite (ℕ_discrete from end)
-        (λ (e : from ≡ end).
-        let past : drop from (take end p.order) ≡ [] = drop_all from (take end p.order) (omega (arith, length-take-le end p.order (omega (arith, turn.places.len, turn.places.listed_few)))) in
-        let nothing : ring_of p.order end from kept ≡ [] = (λ t. past t ++ take (turn.empty e t) p.order) in
-        absurd (some_ring (named_none p.names q.ring (subst (λ (at : List ℕ). AreNamed p.names at q.ring) nothing turn.named))))
-        (λ (ne : from ≢ end). omega (arith, turn.places.from_few))
+    pub ask_some : 0 < length p.queue.ring
+    ask_some = go p.queue.ring q.ring_at
+      where
+        go : (at : List ℕ) → AreNamed p.names at q.ring → 0 < length at
+        go [] h = absurd (some_ring (named_none p.names q.ring h))
+        go (i ∷ at) h = omega arith
 
     abbrev y : ℕ
-    y = get_or p.order from 0
+    y = get_or p.queue.ring 0 0
 
-    end_len : length (take end p.order) ≡ end
-    end_len = length-take-le end p.order (omega (arith, turn.places.len, turn.places.listed_few))
-
-    ring_split : ring_of p.order end from kept ≡ y ∷ ring_of p.order end (from + 1) kept
-    ring_split = ap (λ (at : List ℕ). at ++ take kept p.order)
-        (drop_more (take end p.order) from 0 (omega (arith, end_len, before_end)) ∙ ap (λ (i : ℕ). i ∷ drop (from + 1) (take end p.order)) (get_or-take end p.order from 0 before_end))
-
-    pub asked_first : (m : Name) × (rest : List Name) × (q.ring ≡ m ∷ rest) × (name_at p.names y ≡ Some m) × AreNamed p.names (ring_of p.order end (from + 1) kept) rest
-    asked_first = named_first p.names y _ q.ring (subst (λ (at : List ℕ). AreNamed p.names at q.ring) ring_split turn.named)
+    pub asked_first : (m : Name) × (rest : List Name) × (q.ring ≡ m ∷ rest) × (name_at p.names y ≡ Some m) × AreNamed p.names (drop 1 p.queue.ring) rest
+    asked_first = go p.queue.ring q.ring_at
+      where
+        go : (at : List ℕ) → AreNamed p.names at q.ring → (m : Name) × (rest : List Name) × (q.ring ≡ m ∷ rest) × (name_at p.names (get_or at 0 0) ≡ Some m) × AreNamed p.names (drop 1 at) rest
+        go [] h = absurd (some_ring (named_none p.names q.ring h))
+        go (i ∷ at) h = named_first p.names i at q.ring h
 
     abbrev m : Name
     m = asked_first.0
@@ -407,53 +317,26 @@ module _ {z : Sizes} {p : Parts} {h : List Entry} (amid : IsAmid z p h) (idle : 
 
     -- ---- it refuses
 
-    abbrev order_refused : List ℕ
-    order_refused = set p.order kept y
-
-    pub kept_below : kept < length p.order
-    kept_below = omega (arith, turn.places.kept_few, before_end, turn.places.listed_few, turn.places.len)
-
-    pub from_below : from < length p.order
-    from_below = omega (arith, before_end, turn.places.listed_few, turn.places.len)
-
-    ring_refused : ring_of order_refused end (from + 1) (kept + 1) ≡ ring_of p.order end (from + 1) kept ++ y ∷ []
-    ring_refused =
-        let sum : end ≡ (from + 1) + (end - (from + 1)) = omega (arith, before_end) in
-        let rest : drop (from + 1) (take end order_refused) ≡ drop (from + 1) (take end p.order) =
-        ap (λ (n : ℕ). drop (from + 1) (take n order_refused)) sum ∙ drop-take (from + 1) (end - (from + 1)) order_refused
-        ∙ ap (take (end - (from + 1))) (drop-set-lt (from + 1) p.order kept y (omega (arith, turn.places.kept_few)))
-        ∙ sym (drop-take (from + 1) (end - (from + 1)) p.order) ∙ ap (λ (n : ℕ). drop (from + 1) (take n p.order)) (sym sum) in
-        (λ t. rest t ++ take_more_set p.order kept y kept_below t) ∙ sym (append_assoc (drop (from + 1) (take end p.order)) (take kept p.order) (y ∷ []))
-
-    none_waits : (order : List ℕ) → length order ≡ item_count z → AreNamed p.names (todo_of order end end) []
-    none_waits order len =
-        subst (λ (at : List ℕ). AreNamed p.names at [])
-        (sym (drop_all end (take end order) (omega (arith, length-take-le end order (omega (arith, len, turn.places.listed_few)))))) tt
+    none_waits : AreNamed p.names p.queue.todo []
+    none_waits = subst (λ (at : List ℕ). AreNamed p.names at []) (sym all) tt
 
     pub refused_legal : LegalFrom z s (by Collector (asked_acts m poll false))
     refused_legal = (asked_may false, tt)
 
     pub refused_shows : ShowsWorld z
-        (record p { ends = record (p.ends) { order = order_refused; listed = end; begun = end; from = from + 1; kept = kept + 1; polls = ps } })
+        (record p { ends = record (p.ends) { queue = record (p.queue) { ring = drop 1 p.queue.ring ++ y ∷ [] }; polls = ps } })
         (polled w m poll) s.marks.kept s.marks.fresh s.marks.scanned (Some m)
-    refused_shows = purged_shows k idle (lives_same p.lives) (removed_back removed_polled)
+    refused_shows = purged_shows k idle (lives_same p.lives) removed_polled
         (gone_changed (lives_same p.lives) k.gone refl (there_changed m (λ r. record r { polls = poll }) (λ r. refl) w.removals)
         (λ head u t. t.waits ∙ count_alike _ _ u (λ n a. ap not (sym (is_at-polled w0 m poll AtFinished n)))))
         (λ lane. count_stays m (λ r. record r { polls = poll }) (λ r. refl) lane w.removals)
-        (record {
-          len = length-set p.order kept y ∙ turn.places.len;
-          listed_few = turn.places.listed_few;
-          begun_few = omega arith;
-          from_few = omega (arith, before_end);
-          kept_few = omega (arith, turn.places.kept_few);
-          early = λ e. absurd (omega (arith, e));
-        })
+        refl
         (record {
           todo = [];
           ring = asked_first.1 ++ m ∷ [];
           ready = None;
-          todo_at = none_waits order_refused (length-set p.order kept y ∙ turn.places.len);
-          ring_at = subst (λ (at : List ℕ). AreNamed p.names at (asked_first.1 ++ m ∷ [])) (sym ring_refused) (named_append p.names _ _ _ _ asked_first.4 (asked_first.3, tt));
+          todo_at = none_waits;
+          ring_at = named_append p.names _ _ _ _ asked_first.4 (asked_first.3, tt);
           ready_at = subst (λ (done : Option ℕ). ReadyAt p.names done None) (sym none) tt;
           queue = queue_refused asks' poll;
         })
@@ -560,24 +443,17 @@ module _ {z : Sizes} {p : Parts} {h : List Entry} (amid : IsAmid z p h) (idle : 
           objects = record (p.objects) { lives = agreed_ls };
           ends =
               record (p.ends)
-              { listed = end; begun = end; from = from + 1; kept = kept; polls = ps; waiting = ws; done = finished_unit head (waits - 1) };
+              { queue = record (p.queue) { ring = drop 1 p.queue.ring }; polls = ps; waiting = ws; done = finished_unit head (waits - 1) };
         })
         (at_stage (polled w m poll) m AtFinished) s.marks.kept s.marks.fresh s.marks.scanned (Some m)
-    agreed_shows = purged_shows k idle lives_agreed (removed_back removed_agreed) gone_agreed
+    agreed_shows = purged_shows k idle lives_agreed removed_agreed gone_agreed
         (λ lane. count_stays m (λ r. record r { stage = AtFinished }) (λ r. refl) lane polled_rs ∙ count_stays m (λ r. record r { polls = poll }) (λ r. refl) lane w.removals)
-        (record {
-          len = turn.places.len;
-          listed_few = turn.places.listed_few;
-          begun_few = omega arith;
-          from_few = omega (arith, before_end);
-          kept_few = omega (arith, turn.places.kept_few);
-          early = λ e. absurd (omega (arith, e));
-        })
+        refl
         (record {
           todo = [];
           ring = asked_first.1;
           ready = next_ready;
-          todo_at = none_waits p.order turn.places.len;
+          todo_at = none_waits;
           ring_at = asked_first.4;
           ready_at = ready_now;
           queue = queue_agreed asks' poll unit ordered has_m;

@@ -1,5 +1,5 @@
 -- A purge, step by step.
-use Rattle.std.proofs.Common.{unwrap_or, IsSome, is_some, subst₂, ◌≡◌, ◌≢◌, ℕ, ◌+◌, ◌-◌, ◌<◌, ◌≤◌, ◌^◌, ◌&&◌, refl, sym, subst, ap, ◌∙◌, arith, Bool, cond, true, false, List, [], ◌∷◌, ◌++◌, append_assoc, append-nil, length, filter_map, get_or, count_by, slice_get, Option, Some, None}
+use Rattle.std.proofs.Common.{unwrap_or, IsSome, is_some, subst₂, ◌≡◌, ◌≢◌, ℕ, ◌+◌, ◌-◌, ◌<◌, ◌≤◌, ◌^◌, ◌&&◌, refl, sym, subst, ap, ◌∙◌, arith, Bool, cond, true, false, List, [], ◌∷◌, ◌++◌, append_assoc, append-nil, length, drop, filter_map, get_or, count_by, slice_get, Option, Some, None}
 use Rattle.std.specs.Option.{option_map_or}
 use Rattle.std.specs.List.{list_all, AllByRecursion}
 use Rattle.std.proofs.Math.ListN.{set}
@@ -23,14 +23,15 @@ use Rattle.heap_plain.specs.Types.purge
 use Rattle.heap_plain.specs.Parts.{Parts, Shown, Holds, name_at, name_of, class_at, first_at}
 use Rattle.heap_plain.specs.declared.life.Life.TheVariants.{Begun, Finished}
 use Rattle.heap_plain.specs.Listing.{chained}
-use Rattle.heap_plain.specs.Purging.{Tells, turned, next_poll, finished_unit, asked_acts, asked_calls, Stocks, give_all, CanGive}
+use Rattle.heap_plain.specs.Queue.{Queued, Begins}
+use Rattle.heap_plain.specs.Purging.{Tells, next_poll, finished_unit, asked_acts, asked_calls, Stocks, give_all, CanGive}
 use Rattle.heap_plain.specs.Destroying.{count_left}
 use Rattle.heap_plain.specs.Plain.{Shows, IsPlain, IsPurging}
 use Rattle.heap_plain.proofs.WorldFacts.{state_more}
 use Rattle.heap_plain.proofs.Resting.{rests}
 use Rattle.heap_plain.proofs.Entries.{Done, does}
 use Rattle.heap_plain.proofs.Standing.{name_below}
-use Rattle.heap_plain.proofs.PurgeSteps.{IsAmid, first, begin_may, begin_shows, asked_first, some_wait, head_below, from_below, kept_below, refused_legal, refused_shows, agreed_legal, agreed_shows}
+use Rattle.heap_plain.proofs.PurgeSteps.{IsAmid, first, begin_may, begin_shows, asked_first, ask_some, some_wait, head_below, refused_legal, refused_shows, agreed_legal, agreed_shows}
 use Rattle.heap_plain.proofs.Releasing as releasing
 
 -- ---- hooks
@@ -113,20 +114,17 @@ nothing_told (Some calls) = sym (append-nil calls)
 -- ---- the steps
 
 -- the parts after an object is begun, after one refused or agreed, and after a unit is released
-abbrev pub begun_parts : Parts → ℕ → Parts
-begun_parts p x = record p { objects = record (p.objects) { lives = set p.lives x Begun }; ends = record (p.ends) { begun = p.begun + 1 } }
+abbrev pub begun_parts : Parts → ℕ → Queued → Parts
+begun_parts p x next = record p { objects = record (p.objects) { lives = set p.lives x Begun }; ends = record (p.ends) { queue = next } }
 
-abbrev pub refused_parts : Parts → ℕ → ℕ → ℕ → ℕ → ℕ → Parts
-refused_parts p y poll end from kept = record p { ends = record (p.ends) { order = set p.order kept y; listed = end; begun = end; from = from + 1; kept = kept + 1; polls = set p.polls y poll } }
+abbrev pub refused_parts : Parts → ℕ → ℕ → Parts
+refused_parts p y poll = record p { ends = record (p.ends) { queue = record (p.queue) { ring = drop 1 p.queue.ring ++ y ∷ [] }; polls = set p.polls y poll } }
 
-abbrev pub agreed_parts : Parts → ℕ → ℕ → ℕ → ℕ → ℕ → Parts
-agreed_parts p y poll end from kept = record p {
+abbrev pub agreed_parts : Parts → ℕ → ℕ → Parts
+agreed_parts p y poll = record p {
   objects = record (p.objects) { lives = set p.lives y Finished };
   ends = record (p.ends) {
-    listed = end;
-    begun = end;
-    from = from + 1;
-    kept = kept;
+    queue = record (p.queue) { ring = drop 1 p.queue.ring };
     polls = set p.polls y poll;
     waiting = set p.waiting (first_at p.firsts y) (get_or p.waiting (first_at p.firsts y) 0 - 1);
     done = finished_unit (first_at p.firsts y) (get_or p.waiting (first_at p.firsts y) 0 - 1);
@@ -189,12 +187,9 @@ module _ {z : Sizes} {old : Shown} {before mid : Option (List HookCall)} {was te
 
   -- ---- an object is begun
 
-  module _ (some : p.begun < p.listed) where
-    abbrev x : ℕ
-    x = get_or p.order p.begun 0
-
+  module _ {x : ℕ} {next : Queued} (begins : Begins p.queue next x) where
     abbrev n : (m : Name) × (name_at p.names x ≡ Some m)
-    n = let f = first amid idle some in (f.0, f.3)
+    n = let f = first amid idle begins in (f.0, f.3)
 
     pub begin_named : IsSome (name_at p.names x)
     begin_named = named_some x n.0 n.1
@@ -203,28 +198,19 @@ module _ {z : Sizes} {old : Shown} {before mid : Option (List HookCall)} {was te
     begin_below = below x n.0 n.1
 
     pub purge_begins : {now : Option (List HookCall)} {test' : ReadyTest} → Tells mid now (called.Begin (name_of p.names x) (class_at p.kinds x) ∷ []) → SameTest test test'
-        → IsPurging z old before now was test' (steps + 1) (begun_parts p x) (history ++ by Collector (act.Begun (name_of p.names x) ∷ []))
+        → IsPurging z old before now was test' (steps + 1) (begun_parts p x next) (history ++ by Collector (act.Begun (name_of p.names x) ∷ []))
     purge_begins {now} {test'} told same =
         let name = name_known x n.0 n.1 in
-        subst (λ (m : Name). IsPurging z old before now was test' (steps + 1) (begun_parts p x) (history ++ by Collector (act.Begun m ∷ []))) (sym name)
-        (purges_more (act.Begun n.0 ∷ []) (called.Begin n.0 (class_of (after old.history) n.0) ∷ []) i (begin_may amid idle some, tt) refl refl
-        (begin_shows amid idle some) refl refl refl refl i.gathered
+        subst (λ (m : Name). IsPurging z old before now was test' (steps + 1) (begun_parts p x next) (history ++ by Collector (act.Begun m ∷ []))) (sym name)
+        (purges_more (act.Begun n.0 ∷ []) (called.Begin n.0 (class_of (after old.history) n.0) ∷ []) i (begin_may amid idle begins, tt) refl refl
+        (begin_shows amid idle begins) refl refl refl refl i.gathered
         (λ lane r h. h) refl (subst₂ (λ (m : Name) (class : ClassId). Tells mid now (called.Begin m class ∷ [])) name (class_known x n.0 n.1) told) (tt, tt) same)
 
   -- ---- an object is asked
 
-  module _ (all : p.listed ≤ p.begun) (none : p.done ≡ None) where
-    abbrev end : ℕ
-    end = (turned p.begun p.from p.kept).0
-
-    abbrev from : ℕ
-    from = (turned p.begun p.from p.kept).1
-
-    abbrev kept : ℕ
-    kept = (turned p.begun p.from p.kept).2
-
+  module _ (all : p.queue.todo ≡ []) (none : p.done ≡ None) where
     abbrev y : ℕ
-    y = get_or p.order from 0
+    y = get_or p.queue.ring 0 0
 
     abbrev m : (n : Name) × (name_at p.names y ≡ Some n)
     m = let f = asked_first amid idle all none more in (f.0, f.3)
@@ -232,11 +218,8 @@ module _ {z : Sizes} {old : Shown} {before mid : Option (List HookCall)} {was te
     abbrev poll : ℕ
     poll = next_poll (get_or p.polls y 0)
 
-    pub ask_from : from < length p.order
-    ask_from = from_below amid idle all none more
-
-    pub ask_kept : kept < length p.order
-    ask_kept = kept_below amid idle all none more
+    pub ask_waiting : 0 < length p.queue.ring
+    ask_waiting = ask_some amid idle all none more
 
     pub ask_named : IsSome (name_at p.names y)
     ask_named = named_some y m.0 m.1
@@ -253,11 +236,11 @@ module _ {z : Sizes} {old : Shown} {before mid : Option (List HookCall)} {was te
     pub purge_refused : {now : Option (List HookCall)} {test' : ReadyTest}
         → Tells mid now (asked_calls (name_of p.names y) (class_at p.kinds y) poll false) → test (name_of p.names y) (class_at p.kinds y) poll false
         → SameTest test test'
-        → IsPurging z old before now was test' (steps + 1) (refused_parts p y poll end from kept)
+        → IsPurging z old before now was test' (steps + 1) (refused_parts p y poll)
         (history ++ by Collector (asked_acts (name_of p.names y) poll false))
     purge_refused {now} {test'} told meets same =
         let name = name_known y m.0 m.1 in
-        subst (λ (n : Name). IsPurging z old before now was test' (steps + 1) (refused_parts p y poll end from kept)
+        subst (λ (n : Name). IsPurging z old before now was test' (steps + 1) (refused_parts p y poll)
         (history ++ by Collector (asked_acts n poll false))) (sym name)
         (purges_more (asked_acts m.0 poll false) (asked_calls m.0 (class_of (after old.history) m.0) poll false) i
         (refused_legal amid idle all none more) refl refl (refused_shows amid idle all none more) refl refl refl refl i.gathered
@@ -268,12 +251,12 @@ module _ {z : Sizes} {old : Shown} {before mid : Option (List HookCall)} {was te
         → Tells mid now (asked_calls (name_of p.names y) (class_at p.kinds y) poll true) → test (name_of p.names y) (class_at p.kinds y) poll true
         → SameTest test test'
         → IsPurging z old before now was test' (steps + 1)
-        (agreed_parts p y poll end from kept)
+        (agreed_parts p y poll)
         (history ++ by Collector (asked_acts (name_of p.names y) poll true))
     purge_agreed {now} {test'} told meets same =
         let name = name_known y m.0 m.1 in
         subst (λ (n : Name). IsPurging z old before now was test' (steps + 1)
-        (agreed_parts p y poll end from kept)
+        (agreed_parts p y poll)
         (history ++ by Collector (asked_acts n poll true))) (sym name)
         (purges_more (asked_acts m.0 poll true) (asked_calls m.0 (class_of (after old.history) m.0) poll true) i
         (agreed_legal amid idle all none more) refl refl (agreed_shows amid idle all none more) refl refl refl refl i.gathered
@@ -282,7 +265,7 @@ module _ {z : Sizes} {old : Shown} {before mid : Option (List HookCall)} {was te
 
   -- ---- a unit is released
 
-  module _ (all : p.listed ≤ p.begun) (head : ℕ) (ready : p.done ≡ Some head) (few_items : item_count z < 2 ^ 32) where
+  module _ (all : p.queue.todo ≡ []) (head : ℕ) (ready : p.done ≡ Some head) (few_items : item_count z < 2 ^ 32) where
     abbrev size : ℕ
     size = get_or p.sizes head 0
 

@@ -1,11 +1,11 @@
 -- The queue of destruction, by index.
-use Rattle.std.proofs.Common.{◌≡◌, ℕ, refl, sym, ap, ◌∙◌, inl, inr, suc, List, [], ◌∷◌, ◌++◌, length, Option, Some, None, ◌≤◌, arith, take, subst}
-use Rattle.std.proofs.lemmas.List.{drop_all, length-take-le}
+use Rattle.std.proofs.Common.{◌≡◌, ℕ, refl, sym, ap, ◌∙◌, inl, inr, suc, List, [], ◌∷◌, ◌++◌, length, Option, Some, None}
 use Rattle.world_model.specs.World.{Removal}
 use Rattle.world_model.proofs.ListFacts.{Among}
 use Rattle.heap_plain.specs.Types.{Name}
+use Rattle.heap_plain.specs.Queue.{Queued}
 use Rattle.heap_plain.specs.Parts.{name_at}
-use Rattle.heap_plain.specs.Destroying.{todo_of, AreNamed, ReadyAt, QueueShows, GatherShows}
+use Rattle.heap_plain.specs.Destroying.{AreNamed, ReadyAt, QueueShows, GatherShows}
 
 -- ---- names at indexes
 
@@ -23,24 +23,24 @@ ready_more names ns keep None (Some n) h = absurd h
 ready_more names ns keep (Some i) None h = absurd h
 ready_more names ns keep (Some i) (Some n) h = keep i n h
 
-pub queue_more : {names ns : List (Option Name)} {order : List ℕ} {listed begun from kept : ℕ} {done : Option ℕ} {removals : List Removal}
+pub queue_more : {names ns : List (Option Name)} {q : Queued} {done : Option ℕ} {removals : List Removal}
     {units : List (List Name)} {found : List Name} {asked : Option Name}
     → ((i : ℕ) (n : Name) → name_at names i ≡ Some n → name_at ns i ≡ Some n)
-    → QueueShows names order listed begun from kept done removals units found asked
-    → QueueShows ns order listed begun from kept done removals units found asked
-queue_more {names} {ns} keep q = record {
-  todo = q.todo;
-  ring = q.ring;
-  ready = q.ready;
-  todo_at = named_more names ns keep _ q.todo q.todo_at;
-  ring_at = named_more names ns keep _ q.ring q.ring_at;
-  ready_at = ready_more names ns keep _ q.ready q.ready_at;
-  queue = q.queue;
+    → QueueShows names q done removals units found asked
+    → QueueShows ns q done removals units found asked
+queue_more {names} {ns} keep k = record {
+  todo = k.todo;
+  ring = k.ring;
+  ready = k.ready;
+  todo_at = named_more names ns keep _ k.todo k.todo_at;
+  ring_at = named_more names ns keep _ k.ring k.ring_at;
+  ready_at = ready_more names ns keep _ k.ready k.ready_at;
+  queue = k.queue;
 }
 
-pub gather_more : {names ns : List (Option Name)} {order : List ℕ} {listed begun : ℕ} {done : Option ℕ} {removals : List Removal} {units : List (List Name)} {found : List Name}
-    → ((i : ℕ) (n : Name) → name_at names i ≡ Some n → name_at ns i ≡ Some n) → GatherShows names order listed begun done removals units found
-    → GatherShows ns order listed begun done removals units found
+pub gather_more : {names ns : List (Option Name)} {q : Queued} {done : Option ℕ} {removals : List Removal} {units : List (List Name)} {found : List Name}
+    → ((i : ℕ) (n : Name) → name_at names i ≡ Some n → name_at ns i ≡ Some n) → GatherShows names q done removals units found
+    → GatherShows ns q done removals units found
 gather_more {names} {ns} keep g = record {
   none_begun = g.none_begun;
   none_done = g.none_done;
@@ -78,9 +78,3 @@ named_first names i at (n ∷ of) h = (n, of, refl, h.0, h.1)
 pub named_none : (names : List (Option Name)) (of : List Name) → AreNamed names [] of → of ≡ []
 named_none names [] h = refl
 named_none names (n ∷ of) h = absurd h
-
--- where all are begun, none is to be begun
-pub all_begun : (names : List (Option Name)) (order : List ℕ) (listed begun : ℕ) (todo : List Name) → listed ≤ length order → listed ≤ begun
-    → AreNamed names (todo_of order listed begun) todo → todo ≡ []
-all_begun names order listed begun todo room all h =
-    named_none names todo (subst (λ (at : List ℕ). AreNamed names at todo) (drop_all begun (take listed order) (omega (arith, all, length-take-le listed order room))) h)

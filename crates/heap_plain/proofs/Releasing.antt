@@ -28,7 +28,7 @@ use Rattle.heap_plain.specs.Lists.{Distinct}
 use Rattle.heap_plain.specs.Units.{NamesShow, UnitsShow, StandsAt, LivesAt, AreLinked}
 use Rattle.heap_plain.specs.Roots.{RootsShow, rooted_at}
 use Rattle.heap_plain.specs.Cells.{KindsShow, CellsShow}
-use Rattle.heap_plain.specs.Destroying.{RemovedShow, removal_at, GoneAt, GoneShow, LiesAt, QueueShows, AreNamed, ReadyAt, gone_world, todo_of, at_end, still_there}
+use Rattle.heap_plain.specs.Destroying.{RemovedShow, removal_at, GoneAt, GoneShow, LiesAt, QueueShows, AreNamed, ReadyAt, gone_world, at_end, still_there}
 use Rattle.heap_plain.specs.Plain.{ShowsWorld, Shows}
 use Rattle.heap_plain.proofs.GarbageSteps.{garbage_fewer}
 use Rattle.heap_plain.proofs.Cells.{cells_less}
@@ -40,7 +40,7 @@ use Rattle.heap_plain.proofs.Listings.{linked_member}
 use Rattle.heap_plain.proofs.BeginSteps.{left_idle}
 use Rattle.heap_plain.proofs.SweepSteps.{name_among, among_name}
 use Rattle.heap_plain.proofs.Gathering.{first_among, filter_one, same_unit, distinct_unit}
-use Rattle.heap_plain.proofs.Queueing.{all_begun}
+use Rattle.heap_plain.proofs.Queueing.{named_none}
 use Rattle.heap_plain.proofs.Emptying.{Emptying, Emptied, Empties, empties}
 use Rattle.heap_plain.proofs.Restaging.{gone_index}
 use Rattle.heap_plain.proofs.PurgeSteps.{IsAmid}
@@ -76,7 +76,7 @@ named_less names ns u keep (i ∷ at) (n ∷ of) out h = (keep i n h.0 (out n (i
 
 -- ---- a unit is released
 
-module _ {z : Sizes} {p : Parts} {h : List Entry} (amid : IsAmid z p h) (idle : p.phase ≡ Idle) (all : p.listed ≤ p.begun) (head : ℕ)
+module _ {z : Sizes} {p : Parts} {h : List Entry} (amid : IsAmid z p h) (idle : p.phase ≡ Idle) (all : p.queue.todo ≡ []) (head : ℕ)
     (ready : p.done ≡ Some head) (few_items : item_count z < 2 ^ 32) where
   abbrev s : State
   s = state_of h
@@ -90,7 +90,7 @@ module _ {z : Sizes} {p : Parts} {h : List Entry} (amid : IsAmid z p h) (idle : 
   abbrev w0 : World
   w0 = gone_world w.removals w.last_removed w.found
 
-  abbrev q : QueueShows p.names p.order p.listed p.begun p.from p.kept p.done w.removals w.last_removed w.found s.collector.asked
+  abbrev q : QueueShows p.names p.queue p.done w.removals w.last_removed w.found s.collector.asked
   q = k.queue idle
 
   -- what holds of the removed objects of every history
@@ -101,7 +101,7 @@ module _ {z : Sizes} {p : Parts} {h : List Entry} (amid : IsAmid z p h) (idle : 
   once = different_distinct _ known.destroying.units_different
 
   no_todo : q.todo ≡ []
-  no_todo = all_begun p.names p.order p.listed p.begun q.todo (omega (arith, k.order.len, k.order.listed_few)) all q.todo_at
+  no_todo = named_none p.names q.todo (subst (λ (at : List ℕ). AreNamed p.names at q.todo) all q.todo_at)
 
   pub first : (n : Name) × (q.ready ≡ Some n) × (name_at p.names head ≡ Some n)
   first = go q.ready (subst (λ (done : Option ℕ). ReadyAt p.names done q.ready) ready q.ready_at)
@@ -473,14 +473,14 @@ module _ {z : Sizes} {p : Parts} {h : List Entry} (amid : IsAmid z p h) (idle : 
           let not_at = one_stage w0 m AtFinished AtBegun known.destroying.different (finished m (has_among u m d)) refl in
           absurd (let b = at in cc)
 
-  queue' : QueueShows t.names p.order p.listed p.begun p.from p.kept None rs w.last_removed w.found s.collector.asked
+  queue' : QueueShows t.names p.queue None rs w.last_removed w.found s.collector.asked
   queue' = record {
     todo = [];
     ring = q.ring;
     ready = None;
     todo_at =
         named_less p.names t.names u (λ i m h o. (stays i m h o).0) _ [] (λ m a. absurd a)
-        (subst (λ (todo : List Name). AreNamed p.names (todo_of p.order p.listed p.begun) todo) no_todo q.todo_at);
+        (subst (λ (todo : List Name). AreNamed p.names p.queue.todo todo) no_todo q.todo_at);
     ring_at = named_less p.names t.names u (λ i m h o. (stays i m h o).0) _ q.ring ring_out q.ring_at;
     ready_at = tt;
     queue = queue_release waits;
@@ -501,7 +501,7 @@ module _ {z : Sizes} {p : Parts} {h : List Entry} (amid : IsAmid z p h) (idle : 
     garbage = garbage_fewer lived k.garbage;
     colours = record { work = k.work; idle = k.idle; marks = λ e. absurd (let a = idle in cc) };
     stock = record { made = k.made; free = end.free };
-    ends = record { removed = removed'; gone = gone'; order = k.order; gathers = λ e. absurd (let a = idle in cc); queue = λ e. queue'; none_asked = λ ne. absurd (ne idle) };
+    ends = record { removed = removed'; gone = gone'; room = k.room; gathers = λ e. absurd (let a = idle in cc); queue = λ e. queue'; none_asked = λ ne. absurd (ne idle) };
   }
 
   -- what a frame holds keeps its place

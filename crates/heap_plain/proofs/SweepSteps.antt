@@ -1,5 +1,5 @@
 -- Sweeping.
-use Rattle.std.proofs.Common.{◌≡◌, ◌≢◌, ℕ, ◌+◌, ◌<◌, ◌≤◌, ◌^◌, ◌&&◌, not, refl, sym, subst, subst₂, ap, ◌∙◌, inl, inr, zero, suc, arith, Bool, true, false, List, [], ◌∷◌, ◌++◌, length, length-append, append-nil, map, filter, take, ◌⊎◌, Option, Some, None}
+use Rattle.std.proofs.Common.{◌≡◌, ◌≢◌, ℕ, ◌+◌, ◌<◌, ◌≤◌, ◌^◌, ◌&&◌, not, refl, sym, subst, subst₂, ap, ◌∙◌, inl, inr, zero, suc, arith, Bool, true, false, List, [], ◌∷◌, ◌++◌, length, length-append, append-nil, map, filter, ◌⊎◌, Option, Some, None}
 use Rattle.std.specs.List.{list_all}
 use Rattle.std.proofs.Math.Logic.{dite}
 use Rattle.std.proofs.Math.Decide.{dec_le}
@@ -24,11 +24,11 @@ use Rattle.heap_plain.specs.Types.sweep
 use Rattle.heap_plain.specs.declared.life.Life.{Life}
 use Rattle.heap_plain.specs.declared.life.Life.TheVariants.{Free, Live, Removed, Begun, Finished}
 use Rattle.heap_plain.specs.Parts.{Parts, Ends, name_at, life_at, is_gone}
-use Rattle.heap_plain.specs.Listing.{units_at, CanList, ListsUnits}
-use Rattle.heap_plain.specs.Sweeping.{removed_name, removed_names}
+use Rattle.heap_plain.specs.Listing.{units_at, CanList}
+use Rattle.heap_plain.specs.Sweeping.{removed_name, removed_names, Finds}
 use Rattle.heap_plain.specs.Lists.{Distinct}
 use Rattle.heap_plain.specs.Units.{NamesShow}
-use Rattle.heap_plain.specs.Destroying.{RemovedShow, removal_at, count_left, OrderShows, GatherShows, AreNamed, ReadyAt, gone_world, todo_of, ring_of, still_there, Destroying}
+use Rattle.heap_plain.specs.Destroying.{RemovedShow, removal_at, count_left, GatherShows, AreNamed, ReadyAt, gone_world, still_there, Destroying}
 use Rattle.heap_plain.specs.Plain.{Shows, IsPlain}
 use Rattle.heap_plain.proofs.WorldFacts.{no_longer, different_distinct, distinct_different}
 use Rattle.heap_plain.proofs.Entries.{Done, does}
@@ -135,14 +135,16 @@ refuses_sweep z p h budget was other =
 
 -- ---- a collection gathers
 
-module _ {z : Sizes} {p : Parts} {h : List Entry} {budget looked count : ℕ} (was : IsPlain z p h) (gathering : p.phase ≡ Gathering)
-    (within : looked ≤ budget) (few : count ≤ looked) (range : p.swept + looked ≤ length p.lives)
-    (len : length (removed_names p.names p.lives p.swept looked) ≡ count) (few_items : item_count z < 2 ^ 32) where
+module _ {z : Sizes} {p : Parts} {h : List Entry} {budget looked count : ℕ} {out out' : List Name} (was : IsPlain z p h) (gathering : p.phase ≡ Gathering)
+    (finds : Finds p.names p.lives p.swept budget looked count out out') (same : length out' ≡ length out) (few_items : item_count z < 2 ^ 32) where
   abbrev s : Shows z p (state_of h)
   s = was.shows
 
   abbrev names : List Name
   names = removed_names p.names p.lives p.swept looked
+
+  len : length names ≡ count
+  len = ap (λ (xs : List Name). length xs) (sym finds.found) ∙ length-take-le count out' (omega (arith, finds.room))
 
   phase_is : (after h).phase ≡ Gathering
   phase_is = sym s.phase ∙ gathering
@@ -161,7 +163,7 @@ module _ {z : Sizes} {p : Parts} {h : List Entry} {budget looked count : ℕ} (w
   removed_is : RemovedShow z p.names p.lives p.polls p.left p.swept Gathering (after h).removals (after h).found (after h).swept
   removed_is = subst (λ (phase : Phase). RemovedShow z p.names p.lives p.polls p.left p.swept phase (after h).removals (after h).found (after h).swept) gathering s.removed
 
-  gathers : GatherShows p.names p.order p.listed p.begun p.done (after h).removals (after h).last_removed (after h).found
+  gathers : GatherShows p.names p.queue p.done (after h).removals (after h).last_removed (after h).found
   gathers = s.gathers gathering
 
   abbrev found' : List Name
@@ -201,9 +203,9 @@ module _ {z : Sizes} {p : Parts} {h : List Entry} {budget looked count : ℕ} (w
   sweeps : (stop : SweepStop) → Sweeps (state_of h) budget (record { looked = looked; found = count; stop = stop }) names
   sweeps stop = record {
     gathering = phase_is;
-    within = within;
+    within = finds.within;
     count = sym len;
-    looked = omega arith;
+    looked = omega (arith, len, finds.few);
     different = distinct_different names (distinct_found s.names p.lives p.swept looked);
     removed = all_pass (is_at (after h) model.Removed) names removed_now;
     new = all_pass (λ n. not (has (after h).found n)) names fresh;
@@ -222,7 +224,7 @@ module _ {z : Sizes} {p : Parts} {h : List Entry} {budget looked count : ℕ} (w
 
   -- the members of the units that are found after k items
   abbrev listed_now : ℕ → List ℕ
-  listed_now k = take p.listed p.order ++ units_at p.lives p.firsts p.sizes p.next p.swept k
+  listed_now k = p.queue.todo ++ units_at p.lives p.firsts p.sizes p.next p.swept k
 
   named_now : (k : ℕ) → AreNamed p.names (listed_now k) (members (order_of (after h).last_removed ((after h).found ++ removed_names p.names p.lives p.swept k)))
   named_now k =
@@ -237,31 +239,30 @@ module _ {z : Sizes} {p : Parts} {h : List Entry} {budget looked count : ℕ} (w
   distinct_now k = order_distinct (after h).last_removed ((after h).found ++ removed_names p.names p.lives p.swept k) once
       (subst (λ (ns : List Name). Distinct ns) (sym (found_now k)) (distinct_found s.names p.lives 0 (p.swept + k)))
 
-  listed_fits : (k : ℕ) → p.listed + length (units_at p.lives p.firsts p.sizes p.next p.swept k) ≤ item_count z
+  listed_fits : (k : ℕ) → length p.queue.todo + length (units_at p.lives p.firsts p.sizes p.next p.swept k) ≤ item_count z
   listed_fits k =
       let few = few_named p.names (listed_now k) _ (named_now k) (distinct_now k) in
-      let a = length-append (take p.listed p.order) (units_at p.lives p.firsts p.sizes p.next p.swept k) in
-      let b = length-take-le p.listed p.order (omega (arith, s.order.listed_few, s.order.len)) in
+      let a = length-append p.queue.todo (units_at p.lives p.firsts p.sizes p.next p.swept k) in
       omega (arith, s.names.items)
 
-  pub can_list : CanList p.lives p.firsts p.sizes p.next p.swept looked p.listed (length p.order)
+  pub can_list : CanList p.lives p.firsts p.sizes p.next p.swept looked (length p.queue.todo) p.queue.room
   can_list = record {
-    few = omega (arith, range, s.units.lives_len, few_items);
-    by_life = range;
-    by_first = omega (arith, range, s.units.lives_len, s.units.firsts_len);
-    by_size = omega (arith, range, s.units.lives_len, s.units.sizes_len);
+    few = omega (arith, finds.range, s.units.lives_len, few_items);
+    by_life = finds.range;
+    by_first = omega (arith, finds.range, s.units.lives_len, s.units.firsts_len);
+    by_size = omega (arith, finds.range, s.units.lives_len, s.units.sizes_len);
     within = links_within s.names s.units removed_is s.gone once unbegun;
-    fits = λ k b. omega (arith, listed_fits k, s.order.len);
+    fits = λ k b. omega (arith, listed_fits k, s.room);
   }
 
   left_now : p.left ≡ length (after h).found
   left_now = removed_is.left_is
 
   found_len : p.left + count ≡ length found'
-  found_len = let a = length-append (after h).found names in omega (arith, left_now)
+  found_len = let a = length-append (after h).found names in omega (arith, left_now, len)
 
   swept_below : p.swept + looked ≤ item_count z
-  swept_below = omega (arith, range, s.units.lives_len)
+  swept_below = omega (arith, finds.range, s.units.lives_len)
 
   not_marking : p.phase ≢ Marking
   not_marking e = let a = gathering in cc
@@ -274,27 +275,12 @@ module _ {z : Sizes} {p : Parts} {h : List Entry} {budget looked count : ℕ} (w
   abbrev more_entry : Entry
   more_entry = record { pass = Collector; act = act.Sweep budget more_reply names }
 
-  order_now : (order : List ℕ) (all : ℕ) → ListsUnits p.lives p.firsts p.sizes p.next p.swept looked p.listed all p.order order → OrderShows z order all p.begun p.from p.kept
-  order_now order all lists = record {
-    len = lists.len ∙ s.order.len;
-    listed_few = omega (arith, lists.end, listed_fits looked);
-    begun_few = omega (arith, gathers.none_begun);
-    from_few = s.order.from_few;
-    kept_few = s.order.kept_few;
-    early = λ e. omega (arith, s.order.from_few, gathers.none_begun);
-  }
-
-  listed_at' : (order : List ℕ) (all : ℕ) → ListsUnits p.lives p.firsts p.sizes p.next p.swept looked p.listed all p.order order
-      → AreNamed p.names (take all order) (members (order_of (after h).last_removed found'))
-  listed_at' order all lists = subst (λ (at : List ℕ). AreNamed p.names at (members (order_of (after h).last_removed found'))) (sym lists.order) (named_now looked)
-
   -- the ends after it
-  abbrev swept_ends : List ℕ → ℕ → Ends
-  swept_ends order all = record (p.ends) { swept = p.swept + looked; left = p.left + count; order = order; listed = all }
+  abbrev swept_ends : Ends
+  swept_ends = record (p.ends) { swept = p.swept + looked; left = p.left + count; queue = record (p.queue) { todo = listed_now looked } }
 
-  pub sweeps_more : {order : List ℕ} {all : ℕ} → ListsUnits p.lives p.firsts p.sizes p.next p.swept looked p.listed all p.order order
-      → p.swept + looked < length p.lives → Done z (record p { ends = swept_ends order all }) h (h ++ more_entry ∷ []) Collector (act.Sweep budget more_reply names)
-  sweeps_more {order} {all} lists below = does Collector (act.Sweep budget more_reply names) (act.Sweep budget more_reply names ∷ []) was (refl, tt)
+  pub sweeps_more : p.swept + looked < length p.lives → Done z (record p { ends = swept_ends }) h (h ++ more_entry ∷ []) Collector (act.Sweep budget more_reply names)
+  sweeps_more below = does Collector (act.Sweep budget more_reply names) (act.Sweep budget more_reply names ∷ []) was (refl, tt)
       (record { finishes = was.rest.between.agreed; may = (sweeps sweep.More, omega (arith, s.removed.swept_is, s.units.lives_len)) }, tt) record {
         gate = s.gate;
         objects = s.objects;
@@ -312,11 +298,11 @@ module _ {z : Sizes} {p : Parts} {h : List Entry} {budget looked count : ℕ} (w
             gone = s.removed.gone;
             found_is = λ e. found_now looked;
             left_is = found_len ∙ sym (ap (λ (phase : Phase). count_left phase (after h).removals found') gathering);
-            left_few = λ e. omega (arith, s.removed.left_few gathering);
+            left_few = λ e. omega (arith, s.removed.left_few gathering, finds.few);
           };
           gone = s.gone;
-          order = order_now order all lists;
-          gathers = λ e. record { none_begun = gathers.none_begun; none_done = gathers.none_done; listed_at = listed_at' order all lists };
+          room = s.room;
+          gathers = λ e. record { none_begun = gathers.none_begun; none_done = gathers.none_done; listed_at = named_now looked };
           queue = λ e. absurd (let a = gathering in cc);
           none_asked = s.none_asked;
         };
@@ -376,11 +362,9 @@ module _ {z : Sizes} {p : Parts} {h : List Entry} {budget looked count : ℕ} (w
       queue_start (gone_world (after h).removals (after h).last_removed found') (distinct_different _ (distinct_now looked))
       known.destroying.units_different known.destroying.different unbegun (in_order_is all)
 
-  pub sweeps_all : {order : List ℕ} {end : ℕ} → ListsUnits p.lives p.firsts p.sizes p.next p.swept looked p.listed end p.order order
-      → length p.lives ≤ p.swept + looked
-      → Done z (record p { gate = record (p.gate) { phase = Idle }; ends = swept_ends order end }) h (h ++ settled_entry ∷ []) Collector
-      (act.Sweep budget settled_reply names)
-  sweeps_all {order} {end} lists all = does Collector (act.Sweep budget settled_reply names) (act.Sweep budget settled_reply names ∷ []) was (refl, tt) (may_settle all, tt) record {
+  pub sweeps_all : length p.lives ≤ p.swept + looked
+      → Done z (record p { gate = record (p.gate) { phase = Idle }; ends = swept_ends }) h (h ++ settled_entry ∷ []) Collector (act.Sweep budget settled_reply names)
+  sweeps_all all = does Collector (act.Sweep budget settled_reply names) (act.Sweep budget settled_reply names ∷ []) was (refl, tt) (may_settle all, tt) record {
     gate = record { phase = refl; frames = s.frames };
     objects = s.objects;
     rows = s.rows;
@@ -400,16 +384,14 @@ module _ {z : Sizes} {p : Parts} {h : List Entry} {budget looked count : ℕ} (w
         left_few = λ e. absurd cc;
       };
       gone = s.gone;
-      order = order_now order end lists;
+      room = s.room;
       gathers = λ e. absurd cc;
       queue = λ e. record {
         todo = members (order_of (after h).last_removed found');
         ring = [];
         ready = None;
-        todo_at = subst (λ (k : ℕ). AreNamed p.names (todo_of order end k) (members (order_of (after h).last_removed found'))) (sym gathers.none_begun) (listed_at' order end lists);
-        ring_at =
-            subst (λ (b : ℕ). AreNamed p.names (ring_of order b p.from p.kept) []) (sym gathers.none_begun)
-            (subst₂ (λ (f k : ℕ). AreNamed p.names (ring_of order 0 f k) []) none_from none_kept tt);
+        todo_at = named_now looked;
+        ring_at = subst (λ (at : List ℕ). AreNamed p.names at []) (sym gathers.none_begun) tt;
         ready_at = subst (λ (done : Option ℕ). ReadyAt p.names done None) (sym gathers.none_done) tt;
         queue = subst (λ (last : Option Name). IsQueue (gone_world (after h).removals (after h).last_removed found') last (members (order_of (after h).last_removed found')) [] None)
             (sym (s.none_asked (λ e. let a = gathering in cc))) (queue_now all);
@@ -417,9 +399,3 @@ module _ {z : Sizes} {p : Parts} {h : List Entry} {budget looked count : ℕ} (w
       none_asked = λ ne. absurd (ne refl);
     };
   }
-    where
-      none_from : 0 ≡ p.from
-      none_from = omega (arith, s.order.from_few, gathers.none_begun)
-
-      none_kept : 0 ≡ p.kept
-      none_kept = omega (arith, s.order.from_few, s.order.kept_few, gathers.none_begun)

@@ -1,5 +1,5 @@
 -- The removed objects: how far their destruction is, and the queue of it.
-use Rattle.std.specs.Prelude.{◌≡◌, ◌≢◌, ℕ, ◌<◌, ◌≤◌, ◌&&◌, not, Bool, true, List, [], ◌∷◌, ◌++◌, length, get_or, take, drop, count_by, Option, Some, None}
+use Rattle.std.specs.Prelude.{◌≡◌, ◌≢◌, ℕ, ◌≤◌, ◌&&◌, not, Bool, true, List, [], ◌∷◌, length, get_or, count_by, Option, Some, None}
 use Rattle.std.specs.List.{list_any}
 use Rattle.heap_plain.specs.Types.{Name, Phase, Idle, Gathering}
 use Rattle.world_model.specs.Sizes.{Sizes, item_count}
@@ -8,6 +8,7 @@ use Rattle.world_model.specs.World.{World, empty_world, Removal, Removed as AtRe
 use Rattle.world_model.proofs.ListFacts.{Among}
 use Rattle.world_model.proofs.Queues.{IsQueue}
 use Rattle.heap_plain.specs.declared.life.Life.{Life}
+use Rattle.heap_plain.specs.Queue.{Queued}
 use Rattle.heap_plain.specs.Parts.{Objects, Ends, name_at, life_at, first_at, is_gone, stage_of}
 use Rattle.heap_plain.specs.Sweeping.{removed_names}
 use Rattle.heap_plain.specs.Units.{AreLinked}
@@ -88,38 +89,21 @@ ReadyAt names _ _ = ⊥
 abbrev pub gone_world : List Removal → List (List Name) → List Name → World
 gone_world removals units found = record empty_world { removals = removals; last_removed = units; found = found }
 
--- the indexes that are not begun, and those that are begun and not finished, the next one to be asked first
-abbrev pub todo_of : List ℕ → ℕ → ℕ → List ℕ
-todo_of order listed begun = drop begun (take listed order)
-
-abbrev pub ring_of : List ℕ → ℕ → ℕ → ℕ → List ℕ
-ring_of order begun from kept = drop from (take begun order) ++ take kept order
-
--- the places of the queue; none is asked before all are begun
-pub record OrderShows (z : Sizes) (order : List ℕ) (listed begun from kept : ℕ) : Type 0 where
-  pub len : length order ≡ item_count z
-  pub listed_few : listed ≤ item_count z
-  pub begun_few : begun ≤ listed
-  pub from_few : from ≤ begun
-  pub kept_few : kept ≤ from
-  pub early : begun < listed → from ≡ 0
-
 -- The queue, while removed objects are being destroyed.
-pub record QueueShows (names : List (Option Name)) (order : List ℕ) (listed begun from kept : ℕ) (done : Option ℕ) (removals : List Removal)
-    (units : List (List Name)) (found : List Name) (asked : Option Name) : Type 0 where
+pub record QueueShows (names : List (Option Name)) (q : Queued) (done : Option ℕ) (removals : List Removal) (units : List (List Name)) (found : List Name) (asked : Option Name) : Type 0 where
   pub todo : List Name
   pub ring : List Name
   pub ready : Option Name
-  pub todo_at : AreNamed names (todo_of order listed begun) todo
-  pub ring_at : AreNamed names (ring_of order begun from kept) ring
+  pub todo_at : AreNamed names q.todo todo
+  pub ring_at : AreNamed names q.ring ring
   pub ready_at : ReadyAt names done ready
   pub queue : IsQueue (gone_world removals units found) asked todo ring ready
 
 -- The queue, while removed objects are being found: the members of the units that are found.
-pub record GatherShows (names : List (Option Name)) (order : List ℕ) (listed begun : ℕ) (done : Option ℕ) (removals : List Removal) (units : List (List Name)) (found : List Name) : Type 0 where
-  pub none_begun : begun ≡ 0
+pub record GatherShows (names : List (Option Name)) (q : Queued) (done : Option ℕ) (removals : List Removal) (units : List (List Name)) (found : List Name) : Type 0 where
+  pub none_begun : q.ring ≡ []
   pub none_done : done ≡ None
-  pub listed_at : AreNamed names (take listed order) (members (destruction_order (gone_world removals units found)))
+  pub listed_at : AreNamed names q.todo (members (destruction_order (gone_world removals units found)))
 
 -- ---- all of it
 
@@ -127,7 +111,7 @@ pub record GatherShows (names : List (Option Name)) (order : List ℕ) (listed b
 pub record Destroying (z : Sizes) (phase : Phase) (o : Objects) (e : Ends) (removals : List Removal) (units : List (List Name)) (found : List Name) (looked : ℕ) (asked : Option Name) : Type 0 where
   pub removed : RemovedShow z o.names o.lives e.polls e.left e.swept phase removals found looked
   pub gone : GoneShow z o e.waiting removals units
-  pub order : OrderShows z e.order e.listed e.begun e.from e.kept
-  pub gathers : phase ≡ Gathering → GatherShows o.names e.order e.listed e.begun e.done removals units found
-  pub queue : phase ≡ Idle → QueueShows o.names e.order e.listed e.begun e.from e.kept e.done removals units found asked
+  pub room : e.queue.room ≡ item_count z
+  pub gathers : phase ≡ Gathering → GatherShows o.names e.queue e.done removals units found
+  pub queue : phase ≡ Idle → QueueShows o.names e.queue e.done removals units found asked
   pub none_asked : phase ≢ Idle → asked ≡ None

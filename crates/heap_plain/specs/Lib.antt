@@ -2,7 +2,8 @@
 pub mod Types
 -- lists without repetition
 pub mod Lists
--- the vectors of a plain heap, and what callers see of them
+-- the queue of destruction, the vectors of a plain heap, and what callers see of them
+pub mod Queue
 pub mod Parts
 -- what the functions over the vectors do
 pub mod Filling

@@ -1,5 +1,5 @@
 -- Listing the members of removed units.
-use Rattle.std.specs.Prelude.{◌≡◌, ℕ, ◌+◌, ◌==◌, ◌<◌, ◌≤◌, ◌^◌, Bool, true, false, if◌then◌else◌, List, [], ◌∷◌, ◌++◌, length, get_or, take, zero, suc}
+use Rattle.std.specs.Prelude.{◌≡◌, ℕ, ◌+◌, ◌==◌, ◌<◌, ◌≤◌, ◌^◌, Bool, true, false, if◌then◌else◌, List, [], ◌∷◌, ◌++◌, length, get_or, zero, suc}
 use Rattle.heap_plain.specs.declared.life.Life.{Life}
 use Rattle.heap_plain.specs.declared.life.Life.TheVariants.{Removed}
 use Rattle.heap_plain.specs.Parts.{life_at, first_at, next_at}
@@ -28,7 +28,7 @@ abbrev pub units_at : List Life → List ℕ → List ℕ → List ℕ → ℕ �
 units_at lives firsts sizes links from zero = []
 units_at lives firsts sizes links from (suc count) = units_at lives firsts sizes links from count ++ unit_at lives firsts sizes links (from + count)
 
--- they are places of a list of this length, behind `listed` used ones
+-- so many that were listed before, and they, are no more than there is room for
 pub record CanList (lives : List Life) (firsts sizes links : List ℕ) (from count listed room : ℕ) : Type 0 where
   pub few : from + count < 2 ^ 32
   pub by_life : from + count ≤ length lives
@@ -36,9 +36,3 @@ pub record CanList (lives : List Life) (firsts sizes links : List ℕ) (from cou
   pub by_size : from + count ≤ length sizes
   pub within : (i : ℕ) → begins (life_at lives i) (first_at firsts i) i ≡ true → (k : ℕ) → k < get_or sizes i 0 → chained links i k < length links
   pub fits : (k : ℕ) → k ≤ count → listed + length (units_at lives firsts sizes links from k) ≤ room
-
--- they were appended to the first `listed` places
-pub record ListsUnits (lives : List Life) (firsts sizes links : List ℕ) (from count listed all : ℕ) (old new : List ℕ) : Type 0 where
-  pub len : length new ≡ length old
-  pub end : all ≡ listed + length (units_at lives firsts sizes links from count)
-  pub order : take all new ≡ take listed old ++ units_at lives firsts sizes links from count

@@ -7,6 +7,7 @@ use Rattle.world_model.specs.Histories.{state_of}
 use Rattle.world_model.specs.World.{Stage}
 use Rattle.world_model.specs.World as world
 use Rattle.world_model.specs.State as model
+use Rattle.heap_plain.specs.Queue.{Queued}
 use Rattle.heap_plain.specs.declared.life.Life.{Life}
 use Rattle.heap_plain.specs.declared.life.Life.TheVariants.{Free, Removed, Begun, Finished}
 
@@ -74,11 +75,7 @@ pub record Stock : Type 0 where
 pub record Ends : Type 0 where
   pub left : ℕ
   pub swept : ℕ
-  pub order : List ℕ
-  pub listed : ℕ
-  pub begun : ℕ
-  pub from : ℕ
-  pub kept : ℕ
+  pub queue : Queued
   pub polls : List ℕ
   pub waiting : List ℕ
   pub done : Option ℕ

@@ -1,5 +1,5 @@
 -- What a step of destruction does to the vectors.
-use Rattle.std.specs.Prelude.{◌≡◌, ℕ, ◌+◌, ◌*◌, ◌<◌, ◌==◌, ◌^◌, nat_lt, Bool, true, false, if◌then◌else◌, List, [], ◌∷◌, ◌++◌, length, get_or, Option, Some, None, IsSome, ⊤, zero, suc}
+use Rattle.std.specs.Prelude.{◌≡◌, ℕ, ◌+◌, ◌*◌, ◌<◌, ◌^◌, nat_lt, Bool, true, false, if◌then◌else◌, List, [], ◌∷◌, ◌++◌, length, get_or, Option, Some, None, IsSome, ⊤, zero, suc}
 use Rattle.std.proofs.Math.ListN.{set}
 use Rattle.heap_plain.specs.Types.{Name, ClassId, HookCall, Act}
 use Rattle.heap_plain.specs.Types.act
@@ -34,10 +34,6 @@ asked_calls n class poll false = called.Ready n class poll false ∷ []
 abbrev pub finished_unit : ℕ → ℕ → Option ℕ
 finished_unit head zero = Some head
 finished_unit head (suc rest) = None
-
--- the end of the queue, the next place to be asked and the number of places that are kept
-abbrev pub turned : ℕ → ℕ → ℕ → ℕ × ℕ × ℕ
-turned begun from kept = if from == begun then (kept, 0, 0) else (begun, from, kept)
 
 -- ---- releasing
 

@@ -16,7 +16,8 @@ use crate::life::Life;
 use crate::listing::{list_unit, list_units};
 use crate::marking::{is_done, keep_roots, may_end, may_start, named, starts, stop_of};
 use crate::parting::loosen;
-use crate::purging::{ask_at, begin_at, finish_at, release, turned};
+use crate::purging::{ask_at, begin_at, finish_at, release};
+use crate::queue::Queue;
 use crate::rooting::{must_mark, store};
 use crate::scanning::shade_unit;
 use crate::stacks::{full_stacks, popped};
@@ -84,14 +85,8 @@ pub struct PlainHeap<S: Shape> {
     /// items the sweeps since the last commit have looked at.
     left: u32,
     swept: u32,
-    /// The queue of destruction: indexes of removed objects. The first `kept` are those that were
-    /// asked in this round and are not finished, those from `from` to `begun` the others that are
-    /// begun and not finished, and those from there to `listed` the ones that are not begun.
-    order: Vec<u32>,
-    listed: usize,
-    begun: usize,
-    from: usize,
-    kept: usize,
+    /// The removed objects that are to be begun, and those that are begun and not finished.
+    queue: Queue,
     /// How often each removed object was asked, and at the index of the first member of a removed
     /// unit how many of its members are not finished.
     polls: Vec<u32>,
@@ -121,7 +116,7 @@ impl<S: Shape> Model for PlainHeap<S> {
       garbage = h.garbage.items;
       colours = record { marked = h.marked.items; work = h.work.items; scanned = h.scanned; pushed = h.pushed };
       stock = record { free = h.free.items; spare = h.spare.items; made = h.made.items };
-      ends = record { left = h.left; swept = h.swept; order = h.order.items; listed = h.listed; begun = h.begun; from = h.from; kept = h.kept; polls = h.polls.items; waiting = h.waiting.items; done = h.done };
+      ends = record { left = h.left; swept = h.swept; queue = h.queue; polls = h.polls.items; waiting = h.waiting.items; done = h.done };
     }) h.diary };
 }
 
@@ -156,11 +151,7 @@ impl<S: Shape> PlainHeap<S> {
             phase: Phase::Idle,
             left: 0,
             swept: 0,
-            order: filled(alloc, items, 0)?,
-            listed: 0,
-            begun: 0,
-            from: 0,
-            kept: 0,
+            queue: Queue::new(alloc, items)?,
             polls: filled(alloc, items, 0)?,
             waiting: filled(alloc, items, 0)?,
             done: None,
@@ -401,10 +392,7 @@ impl<S: Shape> Engine<S> for PlainHeap<S> {
             self.phase = Phase::Gathering;
             self.left = 0;
             self.swept = 0;
-            self.listed = 0;
-            self.begun = 0;
-            self.from = 0;
-            self.kept = 0;
+            self.queue.clear();
             self.done = None;
             let items = self.polls.len();
             fill(&mut self.polls, 0, items, 0);
@@ -435,15 +423,14 @@ impl<S: Shape> Engine<S> for PlainHeap<S> {
             budget,
             found,
         );
-        self.listed = list_units(
+        list_units(
             &self.lives,
             &self.firsts,
             &self.sizes,
             &self.next,
             self.swept as usize,
             looked as usize,
-            &mut self.order,
-            self.listed,
+            &mut self.queue,
         );
         self.swept += looked;
         self.left += count;
@@ -480,14 +467,12 @@ impl<S: Shape> Engine<S> for PlainHeap<S> {
         let mut steps = 0;
         while steps < budget && self.left > 0 {
             steps += 1;
-            if self.begun < self.listed {
-                let index = self.order[self.begun] as usize;
-                self.begun += 1;
+            if let Some(index) = self.queue.begin() {
                 begin_at(
                     &self.names,
                     &self.kinds,
                     &mut self.lives,
-                    index,
+                    index as usize,
                     hooks,
                     &mut self.diary,
                 );
@@ -511,12 +496,7 @@ impl<S: Shape> Engine<S> for PlainHeap<S> {
                 );
                 continue;
             }
-            let (end, from, kept) = turned(self.begun, self.from, self.kept);
-            self.listed = end;
-            self.begun = end;
-            self.kept = kept;
-            let index = self.order[from];
-            self.from = from + 1;
+            let index = self.queue.next();
             let agreed = ask_at(
                 &self.names,
                 &self.kinds,
@@ -526,6 +506,7 @@ impl<S: Shape> Engine<S> for PlainHeap<S> {
                 &mut self.diary,
             );
             if agreed {
+                self.queue.finish();
                 self.done = finish_at(
                     &self.firsts,
                     &mut self.lives,
@@ -534,8 +515,7 @@ impl<S: Shape> Engine<S> for PlainHeap<S> {
                 );
                 continue;
             }
-            self.order[kept] = index;
-            self.kept = kept + 1;
+            self.queue.turn();
         }
         let reply = Purged::Ran {
             steps,

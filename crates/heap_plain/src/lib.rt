@@ -13,6 +13,7 @@ mod listing;
 mod marking;
 mod parting;
 mod purging;
+mod queue;
 mod rooting;
 mod scanning;
 mod stacks;

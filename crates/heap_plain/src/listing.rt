@@ -1,11 +1,12 @@
 //! Listing the members of units: of one that is taken apart, and of the removed ones, as a sweep
 //! finds their first members.
-ghost use Rattle.std.specs.Prelude.{◌≡◌, ◌+◌, ◌<◌, ◌≤◌, length, get_or, ℕ};
+ghost use Rattle.std.specs.Prelude.{◌≡◌, ◌+◌, ◌<◌, ◌≤◌, [], ◌++◌, length, get_or, ℕ};
 ghost use Rattle.heap_plain.specs.Filling.{Filled};
 ghost use Rattle.heap_plain.specs.Parts.{life_at, first_at};
-ghost use Rattle.heap_plain.specs.Listing.{chained, begins, CanList, ListsUnits};
+ghost use Rattle.heap_plain.specs.Listing.{chained, chain, begins, units_at, CanList};
 
 use crate::life::Life;
+use crate::queue::Queue;
 
 /// Writes the indexes of a unit's members, of which the first is at `head`, to the places from `at`
 /// on.
@@ -31,9 +32,23 @@ fn begins(life: Life, first: usize, index: usize) -> bool
     }
 }
 
-/// Looks for the first members of removed units at `count` items from `from` on, and appends the
-/// indexes of the units' members to the first `listed` places of `order`. It tells how many places
-/// are used after that.
+/// Lists the indexes of a unit's members, of which the first is at `head`, for destruction.
+fn queue_unit(next: &[u32], head: u32, count: usize, queue: &mut Queue)
+    requires chain { (k : ℕ) → k < count → chained next.now head k < length next.now }
+    requires none_begun { queue.old.ring ≡ [] }
+    requires room { length queue.old.todo + count ≤ queue.old.room }
+    ensures { queue.new ≡ record queue.old { todo = queue.old.todo ++ chain next.now head count } }
+{
+    let mut index = head;
+    for k in 0..count {
+        let _ = k;
+        queue.list(index);
+        index = next[index as usize];
+    }
+}
+
+/// Looks for the first members of removed units at `count` items from `from` on, and lists the indexes
+/// of the units' members for destruction.
 pub(crate) fn list_units(
     lives: &[Life],
     firsts: &[u32],
@@ -41,20 +56,16 @@ pub(crate) fn list_units(
     next: &[u32],
     from: usize,
     count: usize,
-    order: &mut Vec<u32>,
-    listed: usize,
-) -> usize
-    requires can { CanList lives.now firsts.now sizes.now next.now from count listed (length order.old.items) }
-    ensures { ListsUnits lives.now firsts.now sizes.now next.now from count listed result order.old.items order.new.items }
+    queue: &mut Queue,
+)
+    requires can { CanList lives.now firsts.now sizes.now next.now from count (length queue.old.todo) queue.old.room }
+    requires none_begun { queue.old.ring ≡ [] }
+    ensures { queue.new ≡ record queue.old { todo = queue.old.todo ++ units_at lives.now firsts.now sizes.now next.now from count } }
 {
-    let mut all = listed;
     for k in 0..count {
         let index = from + k;
         if begins(lives[index], firsts[index] as usize, index) {
-            let size = sizes[index] as usize;
-            list_unit(next, index as u32, size, order, all);
-            all += size;
+            queue_unit(next, index as u32, sizes[index] as usize, queue);
         }
     }
-    all
 }

@@ -8,7 +8,7 @@ ghost use Rattle.heap_plain.specs.Types.{Collector};
 ghost use Rattle.world_model.specs.Calls.{by};
 ghost use Rattle.world_model.specs.Hooks.{SameTest};
 ghost use Rattle.heap_plain.specs.Parts.{name_at, name_of, class_at, first_at};
-ghost use Rattle.heap_plain.specs.Purging.{Tells, turned, asked_acts, asked_calls, next_poll, CanGive, give, give_all, finished_unit};
+ghost use Rattle.heap_plain.specs.Purging.{Tells, asked_acts, asked_calls, next_poll, CanGive, give, give_all, finished_unit};
 ghost use Rattle.heap_plain.specs.Listing.{chained};
 
 use crate::life::Life;
@@ -36,18 +36,6 @@ pub(crate) fn begin_at<D: Hooks>(
     hooks.begin(name, kinds[index].class);
     diary.begun(Pass::Collector, name);
     lives[index] = Life::Begun;
-}
-
-/// The end of the queue, the next place to be asked and the number of places that are kept: where
-/// the round has ended, a new one begins with those that were kept.
-pub(crate) fn turned(begun: usize, from: usize, kept: usize) -> (usize, usize, usize)
-    ensures { result ≡ turned begun from kept }
-{
-    if from == begun {
-        (kept, 0, 0)
-    } else {
-        (begun, from, kept)
-    }
 }
 
 /// The number of the next poll of an object that was polled so often.

@@ -1,14 +1,19 @@
-use Rattle.std.proofs.Common.{refl, sym, ◌∙◌}
-use Rattle.heap_plain.proofs.Listings.{unit_fits, lists_unit, lists_none}
+use Rattle.std.proofs.Common.{sym, ◌∙◌}
+use Rattle.heap_plain.proofs.Listings.{unit_fits, queues_unit, queues_none}
 use Rattle.heap_plain.proofs.listing.list_units.Goals.{then-begins, else-begins}
 use Rattle.heap_plain.proofs.listing.list_units.Goals as goal
 
-pub list_unit-requires-clause-room : goal.list_unit-requires-clause-room
-list_unit-requires-clause-room c = unit_fits c.requires.can c.loop-k.invariant c.loop-k-test.true (sym c.begins.ensures ∙ c.if-begins.true)
+pub queue_unit-requires-clause-room : goal.queue_unit-requires-clause-room
+queue_unit-requires-clause-room c =
+    unit_fits c.args.lives.now c.args.firsts.now c.args.sizes.now c.args.next.now c.args.from c.loop-k.k c.args.queue.now
+    c.requires.can c.loop-k.invariant c.loop-k-test.true (sym c.begins.ensures ∙ c.if-begins.true)
 
 pub loop-k-preserved : goal.loop-k-preserved
 loop-k-preserved c = elim c.if-begins.branch [
-  | then-begins w ↦ rw (w.order-is, w.all-is) (lists_unit c.loop-k.invariant (sym c.begins.ensures ∙ w.if-begins.true) refl
-      (unit_fits c.requires.can c.loop-k.invariant c.loop-k-test.true (sym c.begins.ensures ∙ w.if-begins.true)) w.list_unit.ensures)
-  | else-begins w ↦ rw (w.order-is, w.all-is) (lists_none c.loop-k.invariant (sym c.begins.ensures ∙ w.if-begins.false))
+  | then-begins w ↦ rw w.queue-is
+      (queues_unit c.args.lives.now c.args.firsts.now c.args.sizes.now c.args.next.now c.args.from c.loop-k.k c.args.queue.now
+      c.loop-k.invariant (sym c.begins.ensures ∙ w.if-begins.true) w.queue_unit.ensures)
+  | else-begins w ↦ rw w.queue-is
+      (queues_none c.args.lives.now c.args.firsts.now c.args.sizes.now c.args.next.now c.args.from c.loop-k.k c.args.queue.now
+      c.loop-k.invariant (sym c.begins.ensures ∙ w.if-begins.false))
 ]

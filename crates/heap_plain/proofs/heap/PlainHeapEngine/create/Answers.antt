@@ -142,11 +142,7 @@ creation : (g : Over) (c : goal.After-out-1 g) → Creation g.S.Shape.sizes (rec
       record {
         left = c.self.inside.left;
         swept = c.self.inside.swept;
-        order = c.self.inside.order.items;
-        listed = c.self.inside.listed;
-        begun = c.self.inside.begun;
-        from = c.self.inside.from;
-        kept = c.self.inside.kept;
+        queue = c.self.inside.queue;
         polls = c.self.inside.polls.items;
         waiting = c.self.inside.waiting.items;
         done = c.self.inside.done;

@@ -15,11 +15,7 @@ invariant-loop-left g l = IsParting g.S.Shape.sizes l.fn.self l.lane l.at.name l
       record {
         left = l.self-inside.left;
         swept = l.self-inside.swept;
-        order = l.self-inside.order.items;
-        listed = l.self-inside.listed;
-        begun = l.self-inside.begun;
-        from = l.self-inside.from;
-        kept = l.self-inside.kept;
+        queue = l.self-inside.queue;
         polls = l.self-inside.polls.items;
         waiting = l.self-inside.waiting.items;
         done = l.self-inside.done;

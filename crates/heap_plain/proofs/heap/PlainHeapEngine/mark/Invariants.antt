@@ -18,11 +18,7 @@ invariant-loop-self g l = record {
         record {
           left = l.self-inside.left;
           swept = l.self-inside.swept;
-          order = l.self-inside.order.items;
-          listed = l.self-inside.listed;
-          begun = l.self-inside.begun;
-          from = l.self-inside.from;
-          kept = l.self-inside.kept;
+          queue = l.self-inside.queue;
           polls = l.self-inside.polls.items;
           waiting = l.self-inside.waiting.items;
           done = l.self-inside.done;

@@ -1,9 +1,9 @@
-use Rattle.std.proofs.Common.{◌≡◌, ◌<◌, ◌^◌, refl, arith, get_or, length}
+use Rattle.std.proofs.Common.{◌≡◌, ◌<◌, ◌^◌, refl, arith, get_or}
 use Rattle.std.proofs.lemmas.List.{get_or_read}
 use Rattle.world_model.specs.Sizes.{item_count}
 use Rattle.world_model.specs.Histories.{after}
 use Rattle.heap_plain.proofs.Resting.{keeps}
-use Rattle.heap_plain.proofs.Purges.{purge_starts, begin_named, begin_below, purge_begins, ask_from, ask_kept, ask_named, ask_below, ask_head, ask_waits, purge_refused, purge_agreed, release_below, release_named, release_few, release_chain, release_can, purge_released, purge_ends, purge_calls, purge_tested, purge_held, waits, waits_calls}
+use Rattle.heap_plain.proofs.Purges.{purge_starts, begin_named, begin_below, purge_begins, ask_waiting, ask_named, ask_below, ask_head, ask_waits, purge_refused, purge_agreed, release_below, release_named, release_few, release_chain, release_can, purge_released, purge_ends, purge_calls, purge_tested, purge_held, waits, waits_calls}
 use Rattle.heap_plain.proofs.heap.PlainHeapEngine.purge.Given.{Over}
 use Rattle.heap_plain.proofs.heap.PlainHeapEngine.purge.Goals.{then-loop-steps-test+else-self-gt0, else-loop-steps-test}
 use Rattle.heap_plain.proofs.heap.PlainHeapEngine.purge.Goals as goal
@@ -27,24 +27,19 @@ pub begin_at-requires : goal.begin_at-requires
 begin_at-requires g c =
     let i = c.loop-steps.invariant.purging in
     let s = i.shows in
-    let x : c.index.result.now ≡ get_or c.loop-steps.self-inside.order.items c.loop-steps.self-inside.begun 0 =
-    get_or_read c.loop-steps.self-inside.order.items _ _ (omega (arith, c.if-self.true, s.order.listed_few, s.order.len)) c.index.ensures 0 in
-    let below = begin_below i c.if-self-gt0.true c.if-self.true in
-    rw (c.deref.ensures.value, c.deref-then-self.ensures.value, x) (record {
-      named = begin_named i c.if-self-gt0.true c.if-self.true;
+    let below = begin_below i c.if-self-gt0.true c.in-Some.ensures in
+    rw (c.deref.ensures.value, c.deref-in-Some.ensures.value) (record {
+      named = begin_named i c.if-self-gt0.true c.in-Some.ensures;
       kinds = omega (arith, below, s.kinds.len);
       lives = omega (arith, below, s.units.lives_len);
     })
 
-pub loop-steps-preserved-then-self : goal.loop-steps-preserved-then-self
-loop-steps-preserved-then-self g c =
-    let i = c.loop-steps.invariant.purging in
-    let s = i.shows in
-    let x : c.index.result.now ≡ get_or c.loop-steps.self-inside.order.items c.loop-steps.self-inside.begun 0 =
-    get_or_read c.loop-steps.self-inside.order.items _ _ (omega (arith, c.if-self.true, s.order.listed_few, s.order.len)) c.index.ensures 0 in
-    rw (c.begin_at.ensures.lives, c.begin_at.ensures.entries, c.deref.ensures.value, x) (record {
+pub loop-steps-preserved-in-Some : goal.loop-steps-preserved-in-Some
+loop-steps-preserved-in-Some g c =
+    rw (c.begin_at.ensures.lives, c.begin_at.ensures.entries, c.deref.ensures.value) (record {
       within = omega (arith, c.loop-steps-test.true);
-      purging = purge_begins i c.if-self-gt0.true c.if-self.true (rw (c.deref.ensures.value, c.deref-then-self.ensures.value, x) at c.begin_at.ensures.calls) c.begin_at.ensures.test;
+      purging = purge_begins c.loop-steps.invariant.purging c.if-self-gt0.true c.in-Some.ensures
+          (rw (c.deref.ensures.value, c.deref-in-Some.ensures.value) at c.begin_at.ensures.calls) c.begin_at.ensures.test;
     })
 
 pub index-size-requires : goal.index-size-requires
@@ -52,7 +47,7 @@ index-size-requires g c =
     let i = c.loop-steps.invariant.purging in
     omega (
       arith,
-      release_below i c.if-self-gt0.true c.if-self.false c.in-Some.head c.in-Some.is (omega (arith, g.S.Shape.lawful.few_items)),
+      release_below i c.if-self-gt0.true c.in_default-begin.ensures.1 c.in-Some-done.head c.in-Some-done.is (omega (arith, g.S.Shape.lawful.few_items)),
       i.shows.units.sizes_len,
       c.loop-steps.self-inside.sizes.ok.0,
     )
@@ -61,113 +56,118 @@ pub overflow_sub-self : goal.overflow_sub-self
 overflow_sub-self g c =
     let i = c.loop-steps.invariant.purging in
     let few : item_count g.S.Shape.sizes < 2 ^ 32 = omega (arith, g.S.Shape.lawful.few_items) in
-    let below = release_below i c.if-self-gt0.true c.if-self.false c.in-Some.head c.in-Some.is few in
-    let size : c.index-size.result.now ≡ get_or c.loop-steps.self-inside.sizes.items c.in-Some.head 0 =
+    let below = release_below i c.if-self-gt0.true c.in_default-begin.ensures.1 c.in-Some-done.head c.in-Some-done.is few in
+    let size : c.index-size.result.now ≡ get_or c.loop-steps.self-inside.sizes.items c.in-Some-done.head 0 =
     get_or_read c.loop-steps.self-inside.sizes.items _ _ (omega (arith, below, i.shows.units.sizes_len)) c.index-size.ensures 0 in
-    omega (arith, size, release_few i c.if-self-gt0.true c.if-self.false c.in-Some.head c.in-Some.is few)
+    omega (arith, size, release_few i c.if-self-gt0.true c.in_default-begin.ensures.1 c.in-Some-done.head c.in-Some-done.is few)
 
 pub named-requires : goal.named-requires
 named-requires g c =
     let i = c.loop-steps.invariant.purging in
-    rw (c.deref-in-Some.ensures.value) (release_named i c.if-self-gt0.true c.if-self.false c.in-Some.head c.in-Some.is (omega (arith, g.S.Shape.lawful.few_items)))
+    rw (c.deref-in-Some-done.ensures.value) (release_named i c.if-self-gt0.true c.in_default-begin.ensures.1 c.in-Some-done.head c.in-Some-done.is (omega (arith, g.S.Shape.lawful.few_items)))
 
 pub release-requires : goal.release-requires
 release-requires g c =
     let i = c.loop-steps.invariant.purging in
     let few : item_count g.S.Shape.sizes < 2 ^ 32 = omega (arith, g.S.Shape.lawful.few_items) in
-    let below = release_below i c.if-self-gt0.true c.if-self.false c.in-Some.head c.in-Some.is few in
-    let size : c.index-size.result.now ≡ get_or c.loop-steps.self-inside.sizes.items c.in-Some.head 0 =
+    let below = release_below i c.if-self-gt0.true c.in_default-begin.ensures.1 c.in-Some-done.head c.in-Some-done.is few in
+    let size : c.index-size.result.now ≡ get_or c.loop-steps.self-inside.sizes.items c.in-Some-done.head 0 =
     get_or_read c.loop-steps.self-inside.sizes.items _ _ (omega (arith, below, i.shows.units.sizes_len)) c.index-size.ensures 0 in
-    rw (c.deref-in-Some-2.ensures.value, c.QUOTA.ensures, g.S.Shape.constants.quota, size) (record {
-      chain = release_chain i c.if-self-gt0.true c.if-self.false c.in-Some.head c.in-Some.is few;
-      can = release_can i c.if-self-gt0.true c.if-self.false c.in-Some.head c.in-Some.is few;
+    rw (c.deref-in-Some-done-2.ensures.value, c.QUOTA.ensures, g.S.Shape.constants.quota, size) (record {
+      chain = release_chain i c.if-self-gt0.true c.in_default-begin.ensures.1 c.in-Some-done.head c.in-Some-done.is few;
+      can = release_can i c.if-self-gt0.true c.in_default-begin.ensures.1 c.in-Some-done.head c.in-Some-done.is few;
     })
 
-pub loop-steps-preserved-in-Some : goal.loop-steps-preserved-in-Some
-loop-steps-preserved-in-Some g c =
+pub loop-steps-preserved-in-Some-done : goal.loop-steps-preserved-in-Some-done
+loop-steps-preserved-in-Some-done g c =
     let i = c.loop-steps.invariant.purging in
     let few : item_count g.S.Shape.sizes < 2 ^ 32 = omega (arith, g.S.Shape.lawful.few_items) in
-    let below = release_below i c.if-self-gt0.true c.if-self.false c.in-Some.head c.in-Some.is few in
-    let size : c.index-size.result.now ≡ get_or c.loop-steps.self-inside.sizes.items c.in-Some.head 0 =
+    let below = release_below i c.if-self-gt0.true c.in_default-begin.ensures.1 c.in-Some-done.head c.in-Some-done.is few in
+    let size : c.index-size.result.now ≡ get_or c.loop-steps.self-inside.sizes.items c.in-Some-done.head 0 =
     get_or_read c.loop-steps.self-inside.sizes.items _ _ (omega (arith, below, i.shows.units.sizes_len)) c.index-size.ensures 0 in
-    let t = rw (c.deref-in-Some-2.ensures.value, c.QUOTA.ensures, g.S.Shape.constants.quota, size) at c.release.ensures in
-    let name = rw (c.deref-in-Some.ensures.value) at c.named.ensures in
-    rw c.released.ensures (record {
+    let t = rw (c.deref-in-Some-done-2.ensures.value, c.QUOTA.ensures, g.S.Shape.constants.quota, size) at c.release.ensures in
+    let name = rw (c.deref-in-Some-done.ensures.value) at c.named.ensures in
+    rw (c.released.ensures, c.in_default-begin.ensures.0) (record {
       within = omega (arith, c.loop-steps-test.true);
-      purging = purge_released i c.if-self-gt0.true c.if-self.false c.in-Some.head c.in-Some.is few c.named.result name c.index-size.result.now size _ t;
+      purging = purge_released i c.if-self-gt0.true c.in_default-begin.ensures.1 c.in-Some-done.head c.in-Some-done.is few c.named.result name c.index-size.result.now size _ t;
     })
 
-pub index-index-requires : goal.index-index-requires
-index-index-requires g c =
-    let i = c.loop-steps.invariant.purging in
-    rw c.turned-end.ensures (omega (arith, ask_from i c.if-self-gt0.true c.if-self.false c.in_default-done.is, c.loop-steps.self-inside.order.ok.0))
+pub next-index-requires : goal.next-index-requires
+next-index-requires g c =
+    rw c.in_default-begin.ensures.0 (ask_waiting c.loop-steps.invariant.purging c.if-self-gt0.true c.in_default-begin.ensures.1 c.in_default-done.is)
 
 pub ask_at-agreed-requires : goal.ask_at-agreed-requires
 ask_at-agreed-requires g c =
     let i = c.loop-steps.invariant.purging in
     let s = i.shows in
-    let at : c.turned-end.result.1 < length c.loop-steps.self-inside.order.items = rw c.turned-end.ensures (ask_from i c.if-self-gt0.true c.if-self.false c.in_default-done.is) in
-    let y : c.index-index.result.now ≡ get_or c.loop-steps.self-inside.order.items c.turned-end.result.1 0 = get_or_read c.loop-steps.self-inside.order.items _ _ at c.index-index.ensures 0 in
-    let below = ask_below i c.if-self-gt0.true c.if-self.false c.in_default-done.is in
-    rw (c.deref-in-loop-steps.ensures.value, c.deref-in-loop-steps-2.ensures.value, y, c.turned-end.ensures) (record {
-      named = ask_named i c.if-self-gt0.true c.if-self.false c.in_default-done.is;
+    let below = ask_below i c.if-self-gt0.true c.in_default-begin.ensures.1 c.in_default-done.is in
+    rw (c.deref-in-loop-steps.ensures.value, c.deref-in-loop-steps-2.ensures.value, c.next-index.ensures, c.in_default-begin.ensures.0) (record {
+      named = ask_named i c.if-self-gt0.true c.in_default-begin.ensures.1 c.in_default-done.is;
       kinds = omega (arith, below, s.kinds.len);
       polls = omega (arith, below, s.removed.polls_len);
     })
+
+pub finish-requires : goal.finish-requires
+finish-requires g c = rw c.in_default-begin.ensures.0 (record {
+  all_begun = c.in_default-begin.ensures.1;
+  some = ask_waiting c.loop-steps.invariant.purging c.if-self-gt0.true c.in_default-begin.ensures.1 c.in_default-done.is;
+})
 
 pub finish_at-self-inside-requires : goal.finish_at-self-inside-requires
 finish_at-self-inside-requires g c =
     let i = c.loop-steps.invariant.purging in
     let s = i.shows in
-    let at : c.turned-end.result.1 < length c.loop-steps.self-inside.order.items = rw c.turned-end.ensures (ask_from i c.if-self-gt0.true c.if-self.false c.in_default-done.is) in
-    let y : c.index-index.result.now ≡ get_or c.loop-steps.self-inside.order.items c.turned-end.result.1 0 = get_or_read c.loop-steps.self-inside.order.items _ _ at c.index-index.ensures 0 in
-    let below = ask_below i c.if-self-gt0.true c.if-self.false c.in_default-done.is in
-    rw (c.deref-then-agreed.ensures.value, y, c.turned-end.ensures) (record {
+    let below = ask_below i c.if-self-gt0.true c.in_default-begin.ensures.1 c.in_default-done.is in
+    rw (c.deref-then-agreed.ensures.value, c.next-index.ensures, c.in_default-begin.ensures.0) (record {
       firsts = omega (arith, below, s.units.firsts_len);
       lives = omega (arith, below, s.units.lives_len);
-      head = omega (arith, ask_head i c.if-self-gt0.true c.if-self.false c.in_default-done.is, s.gone.waiting_len);
-      some = ask_waits i c.if-self-gt0.true c.if-self.false c.in_default-done.is;
+      head = omega (arith, ask_head i c.if-self-gt0.true c.in_default-begin.ensures.1 c.in_default-done.is, s.gone.waiting_len);
+      some = ask_waits i c.if-self-gt0.true c.in_default-begin.ensures.1 c.in_default-done.is;
     })
 
 pub loop-steps-preserved-then-agreed : goal.loop-steps-preserved-then-agreed
 loop-steps-preserved-then-agreed g c =
-    let i = c.loop-steps.invariant.purging in
-    let at : c.turned-end.result.1 < length c.loop-steps.self-inside.order.items = rw c.turned-end.ensures (ask_from i c.if-self-gt0.true c.if-self.false c.in_default-done.is) in
-    let y : c.index-index.result.now ≡ get_or c.loop-steps.self-inside.order.items c.turned-end.result.1 0 = get_or_read c.loop-steps.self-inside.order.items _ _ at c.index-index.ensures 0 in
     rw (
       c.finish_at-self-inside.ensures.lives,
       c.finish_at-self-inside.ensures.waiting,
       c.finish_at-self-inside.ensures.unit,
+      c.finish.ensures,
       c.ask_at-agreed.ensures.polls,
       c.ask_at-agreed.ensures.entries,
       c.deref-in-loop-steps.ensures.value,
       c.deref-then-agreed.ensures.value,
       c.if-agreed.true,
-      y,
-      c.turned-end.ensures,
+      c.next-index.ensures,
+      c.in_default-begin.ensures.0,
     ) (record {
       within = omega (arith, c.loop-steps-test.true);
-      purging = purge_agreed i c.if-self-gt0.true c.if-self.false c.in_default-done.is
-          (rw (c.deref-in-loop-steps.ensures.value, c.deref-in-loop-steps-2.ensures.value, c.if-agreed.true, y, c.turned-end.ensures) at c.ask_at-agreed.ensures.calls)
-          (rw (c.deref-in-loop-steps.ensures.value, c.deref-in-loop-steps-2.ensures.value, c.if-agreed.true, y, c.turned-end.ensures) at c.ask_at-agreed.ensures.answer)
+      purging = purge_agreed c.loop-steps.invariant.purging c.if-self-gt0.true c.in_default-begin.ensures.1 c.in_default-done.is
+          (rw (c.deref-in-loop-steps.ensures.value, c.deref-in-loop-steps-2.ensures.value, c.if-agreed.true, c.next-index.ensures, c.in_default-begin.ensures.0) at c.ask_at-agreed.ensures.calls)
+          (rw (c.deref-in-loop-steps.ensures.value, c.deref-in-loop-steps-2.ensures.value, c.if-agreed.true, c.next-index.ensures, c.in_default-begin.ensures.0) at c.ask_at-agreed.ensures.answer)
           c.ask_at-agreed.ensures.test;
     })
 
-pub index_mut-requires : goal.index_mut-requires
-index_mut-requires g c =
-    let i = c.loop-steps.invariant.purging in
-    rw c.turned-end.ensures (omega (arith, ask_kept i c.if-self-gt0.true c.if-self.false c.in_default-done.is, c.loop-steps.self-inside.order.ok.0))
+pub turn-requires : goal.turn-requires
+turn-requires g c = rw c.in_default-begin.ensures.0 (record {
+  all_begun = c.in_default-begin.ensures.1;
+  some = ask_waiting c.loop-steps.invariant.purging c.if-self-gt0.true c.in_default-begin.ensures.1 c.in_default-done.is;
+})
 
 pub loop-steps-preserved : goal.loop-steps-preserved
 loop-steps-preserved g c =
-    let i = c.loop-steps.invariant.purging in
-    let at : c.turned-end.result.1 < length c.loop-steps.self-inside.order.items = rw c.turned-end.ensures (ask_from i c.if-self-gt0.true c.if-self.false c.in_default-done.is) in
-    let y : c.index-index.result.now ≡ get_or c.loop-steps.self-inside.order.items c.turned-end.result.1 0 = get_or_read c.loop-steps.self-inside.order.items _ _ at c.index-index.ensures 0 in
-    rw (c.ask_at-agreed.ensures.polls, c.ask_at-agreed.ensures.entries, c.deref-in-loop-steps.ensures.value, c.if-agreed.false, y, c.turned-end.ensures) (record {
+    rw (
+      c.turn.ensures,
+      c.ask_at-agreed.ensures.polls,
+      c.ask_at-agreed.ensures.entries,
+      c.deref-in-loop-steps.ensures.value,
+      c.if-agreed.false,
+      c.next-index.ensures,
+      c.in_default-begin.ensures.0,
+    ) (record {
       within = omega (arith, c.loop-steps-test.true);
-      purging = purge_refused i c.if-self-gt0.true c.if-self.false c.in_default-done.is
-          (rw (c.deref-in-loop-steps.ensures.value, c.deref-in-loop-steps-2.ensures.value, c.if-agreed.false, y, c.turned-end.ensures) at c.ask_at-agreed.ensures.calls)
-          (rw (c.deref-in-loop-steps.ensures.value, c.deref-in-loop-steps-2.ensures.value, c.if-agreed.false, y, c.turned-end.ensures) at c.ask_at-agreed.ensures.answer)
+      purging = purge_refused c.loop-steps.invariant.purging c.if-self-gt0.true c.in_default-begin.ensures.1 c.in_default-done.is
+          (rw (c.deref-in-loop-steps.ensures.value, c.deref-in-loop-steps-2.ensures.value, c.if-agreed.false, c.next-index.ensures, c.in_default-begin.ensures.0) at c.ask_at-agreed.ensures.calls)
+          (rw (c.deref-in-loop-steps.ensures.value, c.deref-in-loop-steps-2.ensures.value, c.if-agreed.false, c.next-index.ensures, c.in_default-begin.ensures.0) at c.ask_at-agreed.ensures.answer)
           c.ask_at-agreed.ensures.test;
     })
 

@@ -1,7 +1,4 @@
-use Rattle.std.proofs.Common.{◌≡◌, refl, ap, sym, ◌∙◌, arith, List, length}
-use Rattle.std.proofs.lemmas.List.{length-take-le}
-use Rattle.heap_plain.specs.Types.{Name}
-use Rattle.heap_plain.specs.Sweeping.{removed_names}
+use Rattle.std.proofs.Common.{refl, arith}
 use Rattle.heap_plain.proofs.Resting.{keeps}
 use Rattle.heap_plain.proofs.SweepSteps.{refuses_sweep, can_list, sweeps_more, sweeps_all}
 use Rattle.heap_plain.proofs.heap.PlainHeapEngine.sweep.Goals as goal
@@ -20,33 +17,27 @@ overflow_add-self g c =
     let f = rw (c.deref.ensures.value, c.deref-2.ensures.value) at c.find_removed-looked.ensures in
     omega (arith, f.range, c.self.invariant.shows.names.items, g.S.Shape.lawful.few_items)
 
-pub list_units-self-inside-requires : goal.list_units-self-inside-requires
-list_units-self-inside-requires g c =
+pub list_units-requires : goal.list_units-requires
+list_units-requires g c =
     let f = rw (c.deref.ensures.value, c.deref-2.ensures.value) at c.find_removed-looked.ensures in
-    let len : length (removed_names c.self.inside.names.items c.self.inside.lives.items c.self.inside.swept c.find_removed-looked.result.0) ≡ c.find_removed-looked.result.1 =
-    ap (λ (xs : List Name). length xs) (sym f.found) ∙ length-take-le _ _ (omega (arith, f.room, c.find_removed-looked.auto.found)) in
     rw (c.deref-3.ensures.value, c.deref-4.ensures.value, c.deref-5.ensures.value, c.deref-6.ensures.value) (record {
-      can = can_list c.self.invariant c.in-Gathering.is f.within f.few f.range len (omega (arith, g.S.Shape.lawful.few_items));
+      can = can_list c.self.invariant c.in-Gathering.is f c.find_removed-looked.auto.found (omega (arith, g.S.Shape.lawful.few_items));
+      none_begun = (c.self.invariant.shows.gathers c.in-Gathering.is).none_begun;
     })
 
 pub invariant_of-self-then-self-len : goal.invariant_of-self-then-self-len
 invariant_of-self-then-self-len g c =
     let f = rw (c.deref.ensures.value, c.deref-2.ensures.value) at c.find_removed-looked.ensures in
-    let len : length (removed_names c.self.inside.names.items c.self.inside.lives.items c.self.inside.swept c.find_removed-looked.result.0) ≡ c.find_removed-looked.result.1 =
-    ap (λ (xs : List Name). length xs) (sym f.found) ∙ length-take-le _ _ (omega (arith, f.room, c.find_removed-looked.auto.found)) in
-    let listed = rw (c.deref-3.ensures.value, c.deref-4.ensures.value, c.deref-5.ensures.value, c.deref-6.ensures.value) at c.list_units-self-inside.ensures in
-    rw (c.sweep-then-self-len.ensures, f.found)
-    (sweeps_more c.self.invariant c.in-Gathering.is f.within f.few f.range len (omega (arith, g.S.Shape.lawful.few_items)) listed
+    let listed = rw (c.deref-3.ensures.value, c.deref-4.ensures.value, c.deref-5.ensures.value, c.deref-6.ensures.value) at c.list_units.ensures in
+    rw (c.sweep-then-self-len.ensures, listed, f.found)
+    (sweeps_more c.self.invariant c.in-Gathering.is f c.find_removed-looked.auto.found (omega (arith, g.S.Shape.lawful.few_items))
     (omega (arith, c.if-self-len.true, c.len.ensures, c.self.inside.lives.ok.0))).plain
 
 pub returns-then-self-len-clause-entries : goal.returns-then-self-len-clause-entries
 returns-then-self-len-clause-entries g c =
     let f = rw (c.deref.ensures.value, c.deref-2.ensures.value) at c.find_removed-looked.ensures in
-    let len : length (removed_names c.self.inside.names.items c.self.inside.lives.items c.self.inside.swept c.find_removed-looked.result.0) ≡ c.find_removed-looked.result.1 =
-    ap (λ (xs : List Name). length xs) (sym f.found) ∙ length-take-le _ _ (omega (arith, f.room, c.find_removed-looked.auto.found)) in
-    let listed = rw (c.deref-3.ensures.value, c.deref-4.ensures.value, c.deref-5.ensures.value, c.deref-6.ensures.value) at c.list_units-self-inside.ensures in
     rw (← c.self.view_is, c.sweep-then-self-len.ensures, f.found)
-    (sweeps_more c.self.invariant c.in-Gathering.is f.within f.few f.range len (omega (arith, g.S.Shape.lawful.few_items)) listed
+    (sweeps_more c.self.invariant c.in-Gathering.is f c.find_removed-looked.auto.found (omega (arith, g.S.Shape.lawful.few_items))
     (omega (arith, c.if-self-len.true, c.len.ensures, c.self.inside.lives.ok.0))).entries
 
 pub returns-then-self-len-clause-held : goal.returns-then-self-len-clause-held
@@ -55,21 +46,16 @@ returns-then-self-len-clause-held g c = let entries = rw (← c.self.view_is) at
 pub invariant_of-self-2 : goal.invariant_of-self-2
 invariant_of-self-2 g c =
     let f = rw (c.deref.ensures.value, c.deref-2.ensures.value) at c.find_removed-looked.ensures in
-    let len : length (removed_names c.self.inside.names.items c.self.inside.lives.items c.self.inside.swept c.find_removed-looked.result.0) ≡ c.find_removed-looked.result.1 =
-    ap (λ (xs : List Name). length xs) (sym f.found) ∙ length-take-le _ _ (omega (arith, f.room, c.find_removed-looked.auto.found)) in
-    let listed = rw (c.deref-3.ensures.value, c.deref-4.ensures.value, c.deref-5.ensures.value, c.deref-6.ensures.value) at c.list_units-self-inside.ensures in
-    rw (c.sweep-2.ensures, f.found)
-    (sweeps_all c.self.invariant c.in-Gathering.is f.within f.few f.range len (omega (arith, g.S.Shape.lawful.few_items)) listed
+    let listed = rw (c.deref-3.ensures.value, c.deref-4.ensures.value, c.deref-5.ensures.value, c.deref-6.ensures.value) at c.list_units.ensures in
+    rw (c.sweep-2.ensures, listed, f.found)
+    (sweeps_all c.self.invariant c.in-Gathering.is f c.find_removed-looked.auto.found (omega (arith, g.S.Shape.lawful.few_items))
     (omega (arith, c.if-self-len.false, c.len.ensures, c.self.inside.lives.ok.0))).plain
 
 pub returns-clause-entries : goal.returns-clause-entries
 returns-clause-entries g c =
     let f = rw (c.deref.ensures.value, c.deref-2.ensures.value) at c.find_removed-looked.ensures in
-    let len : length (removed_names c.self.inside.names.items c.self.inside.lives.items c.self.inside.swept c.find_removed-looked.result.0) ≡ c.find_removed-looked.result.1 =
-    ap (λ (xs : List Name). length xs) (sym f.found) ∙ length-take-le _ _ (omega (arith, f.room, c.find_removed-looked.auto.found)) in
-    let listed = rw (c.deref-3.ensures.value, c.deref-4.ensures.value, c.deref-5.ensures.value, c.deref-6.ensures.value) at c.list_units-self-inside.ensures in
     rw (← c.self.view_is, c.sweep-2.ensures, f.found)
-    (sweeps_all c.self.invariant c.in-Gathering.is f.within f.few f.range len (omega (arith, g.S.Shape.lawful.few_items)) listed
+    (sweeps_all c.self.invariant c.in-Gathering.is f c.find_removed-looked.auto.found (omega (arith, g.S.Shape.lawful.few_items))
     (omega (arith, c.if-self-len.false, c.len.ensures, c.self.inside.lives.ok.0))).entries
 
 pub returns-clause-held : goal.returns-clause-held
