@@ -109,7 +109,14 @@ fn puts<R: Threads + Sync>(
     held: usize,
     lines: u64,
 ) -> bool {
-    let Some(ran) = run(rt, alloc, "play --shape small", SCRIPT.as_bytes(), SURE, sink) else {
+    let Some(ran) = run(
+        rt,
+        alloc,
+        "play --shape small",
+        SCRIPT.as_bytes(),
+        SURE,
+        sink,
+    ) else {
         return false;
     };
     ran.status == status
