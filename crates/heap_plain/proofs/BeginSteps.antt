@@ -1,12 +1,12 @@
 -- Beginning a collection.
-use Rattle.std.proofs.Common.{◌≡◌, ◌≢◌, ℕ, ◌<◌, ◌≤◌, ◌||◌, refl, sym, subst, ap, ◌∙◌, inl, inr, zero, suc, arith, Bool, true, false, List, [], ◌∷◌, ◌++◌, length, get_or, map, take, ◌⊎◌, count_by, append_assoc, append-nil, Option, Some, None, IsSome, is_some}
+use Rattle.std.proofs.Common.{◌≡◌, ◌≢◌, ℕ, ◌<◌, ◌≤◌, ◌||◌, refl, sym, subst, ap, ◌∙◌, inl, inr, arith, Bool, true, false, List, [], ◌∷◌, ◌++◌, length, get_or, map, replicate, ◌⊎◌, count_by, append_assoc, Option, Some, None, IsSome, is_some}
 use Rattle.std.specs.List.{list_any, AllByRecursion}
 use Rattle.std.specs.Option.{option_to_list}
 use Rattle.std.proofs.Math.ListN.{set}
 use Rattle.std.proofs.Math.Logic.{dite}
 use Rattle.std.proofs.Math.Decide.{ℕ_discrete, dec_le}
 use Rattle.std.proofs.Math.Nat.{lt_of_not-le}
-use Rattle.std.proofs.lemmas.List.{length-set, get_or-set_other, get_or-take, length-take-le, get_or_past}
+use Rattle.std.proofs.lemmas.List.{length-set, get_or-set_other, get_or-replicate, length-replicate, get_or_past}
 use Rattle.world_model.specs.Sizes.{Sizes, item_count}
 use Rattle.world_model.specs.NameLists.{has}
 use Rattle.world_model.specs.World.{World, unit_of, in_world, Removal}
@@ -23,18 +23,18 @@ use Rattle.heap_plain.specs.Types.{Name, Kind, Phase, Idle, Marking, Gathering, 
 use Rattle.heap_plain.specs.Types.act
 use Rattle.heap_plain.specs.Types.begin
 use Rattle.heap_plain.specs.Parts.{Parts, Objects, name_at, first_at}
-use Rattle.heap_plain.specs.Filling.{Filled}
-use Rattle.heap_plain.specs.Notes.{MayStart, starts, names_at, all_set, CanKeep, Keeps}
+use Rattle.heap_plain.specs.Painted.{Painted, greyed, all_greyed}
+use Rattle.heap_plain.specs.Notes.{MayStart, starts, names_at}
+use Rattle.heap_plain.specs.Shading.{InRoots, CanShade, Shades}
 use Rattle.heap_plain.specs.Units.{NamesShow, UnitsShow, StandsAt, LivesAt}
 use Rattle.heap_plain.specs.Roots.{RootsShow, rooted_at}
 use Rattle.heap_plain.specs.Colouring.{MarksShow}
 use Rattle.heap_plain.specs.Destroying.{RemovedShow, count_left}
 use Rattle.heap_plain.specs.Plain.{ShowsWorld, Shows, IsPlain}
-use Rattle.heap_plain.proofs.Fillings.{from_start}
 use Rattle.heap_plain.proofs.Entries.{Done, does}
 use Rattle.heap_plain.proofs.Standing.{member_at, bit_below, name_below, lives_at}
 use Rattle.heap_plain.proofs.MarkSteps.{mark_one}
-use Rattle.heap_plain.proofs.Noting.{length-all_set}
+use Rattle.heap_plain.proofs.Shadings.{shades_len}
 
 -- ---- refusals
 
@@ -70,28 +70,18 @@ refuses_begin (begin.Frames n) was m other =
 -- ---- the notes
 
 -- bits that are set are among the old ones or the new ones
-pub set_among : (bits : List Bool) (xs : List ℕ) (x : ℕ) → get_or (all_set bits xs) x false ≡ true → (get_or bits x false ≡ true) ⊎ Among xs x
-set_among bits [] x e = inl e
-set_among bits (y ∷ xs) x e = go (set_among (set bits y true) xs x e)
+set_among : (c : Painted) (xs : List ℕ) (x : ℕ) → get_or (all_greyed c xs).marked x false ≡ true → (get_or c.marked x false ≡ true) ⊎ Among xs x
+set_among c [] x e = inl e
+set_among c (y ∷ xs) x e = go (set_among (greyed c y) xs x e)
   where
-    go : (get_or (set bits y true) x false ≡ true) ⊎ Among xs x → (get_or bits x false ≡ true) ⊎ ((y ≡ x) ⊎ Among xs x)
-    go (inl is) = dite (ℕ_discrete y x) (λ (e : y ≡ x). inr (inl e)) (λ (ne : y ≢ x). inl (sym (get_or-set_other bits y x true false (λ e. ne (sym e))) ∙ is))
+    go : (get_or (set c.marked y true) x false ≡ true) ⊎ Among xs x → (get_or c.marked x false ≡ true) ⊎ ((y ≡ x) ⊎ Among xs x)
+    go (inl is) = dite (ℕ_discrete y x) (λ (e : y ≡ x). inr (inl e)) (λ (ne : y ≢ x). inl (sym (get_or-set_other c.marked y x true false (λ e. ne (sym e))) ∙ is))
     go (inr a) = inr (inr a)
 
 among_names_at : (names : List (Option Name)) (xs : List ℕ) (x : ℕ) (n : Name) → Among xs x → name_at names x ≡ Some n → Among (names_at names xs) n
 among_names_at names [] x n a e = absurd a
 among_names_at names (y ∷ xs) x n (inl same) e = let t : name_at names y ≡ Some n = ap (name_at names) same ∙ e in rw t (inl refl)
 among_names_at names (y ∷ xs) x n (inr a) e = among_right (option_to_list (name_at names y)) (names_at names xs) n (among_names_at names xs x n a e)
-
-pub get_or_among : (xs : List ℕ) (k d : ℕ) → k < length xs → Among xs (get_or xs k d)
-get_or_among [] k d h = absurd (omega arith)
-get_or_among (x ∷ xs) zero d h = inl refl
-get_or_among (x ∷ xs) (suc k) d h = inr (get_or_among xs k d (omega arith))
-
-can_below : (firsts : List ℕ) (roots bits : List Bool) (count limit : ℕ) (xs : List ℕ) → ((i : ℕ) → first_at firsts i < limit) → CanKeep firsts roots count bits xs → (x : ℕ) → Among xs x → x < limit
-can_below firsts roots bits count limit [] f h x a = absurd a
-can_below firsts roots bits count limit (y ∷ xs) f h x (inl e) = subst (λ (k : ℕ). k < limit) (h.0.3 ∙ e) (f h.0.0)
-can_below firsts roots bits count limit (y ∷ xs) f h x (inr a) = can_below firsts roots (set bits y true) count limit xs f h.2 x a
 
 none_any : (u : List Name) → list_any (λ n. has [] n || has [] n) u ≡ false
 none_any [] = refl
@@ -102,11 +92,11 @@ none_has [] e = cc
 none_has (n ∷ u) e = none_has u e
 
 -- what the notes of these units do from a state on
-pub record KeepRun (z : Sizes) (o : Objects) (marked : List Bool) (listed grey : List ℕ) (s : State) (of : List Name) : Type 0 where
+pub record KeepRun (z : Sizes) (o : Objects) (c : Painted) (s : State) (of : List Name) : Type 0 where
   pub legal : LegalFrom z s (by Collector (map act.Kept of))
   pub world : (run s (by Collector (map act.Kept of))).world ≡ s.world
   pub asked : (run s (by Collector (map act.Kept of))).collector.asked ≡ s.collector.asked
-  pub marks : MarksShow o s.world.units marked listed grey (run s (by Collector (map act.Kept of))).marks.kept
+  pub marks : MarksShow o s.world.units c (run s (by Collector (map act.Kept of))).marks.kept
       (run s (by Collector (map act.Kept of))).marks.fresh (run s (by Collector (map act.Kept of))).marks.scanned
   pub roots : AllByRecursion (λ n. IsRootUnit (graph s.world) (unit_of s.world n)) of
 
@@ -127,34 +117,34 @@ root_at {o = o} {roots = roots} {rooted = rooted} ns us rs living i e = go (name
         let same : j.0 ≡ i = ns.alone j.0 i n j.1.name at in
         (n, subst (λ (k : ℕ). LivesAt o.names o.lives k n) same j.1, is)
 
-pub keep_run : (z : Sizes) (o : Objects) (roots : List Bool) (s : State) (earlier : List World) (marked : List Bool) (listed grey heads : List ℕ) (count : ℕ)
+pub keep_run : (z : Sizes) (o : Objects) (roots : List Bool) (s : State) (earlier : List World) (c : Painted) (heads : List ℕ) (count : ℕ)
     → AreApart s.world.kinds s.world.units → NamesShow z o.names s.world.kinds → UnitsShow z o s.world.units
     → RootsShow z o.names roots s.world.rooted s.world.strong → ((n : Name) → s.world.rooted n ≡ true → in_world s.world n ≡ true)
-    → s.world.phase ≡ Marking → s.collector.started ≡ true → s.collector.agreed ≡ None → s.marks.moments ≡ s.world ∷ earlier → s.marks.scanned ≡ [] → length marked ≡ item_count z
-    → MarksShow o s.world.units marked listed grey s.marks.kept s.marks.fresh s.marks.scanned → CanKeep o.firsts roots count marked heads
-    → KeepRun z o (all_set marked heads) (listed ++ heads) (grey ++ heads) s (names_at o.names heads)
-keep_run z o roots s earlier marked listed grey [] count apart ns us rs living marking started agreed moments black len marks can = record {
+    → s.world.phase ≡ Marking → s.collector.started ≡ true → s.collector.agreed ≡ None → s.marks.moments ≡ s.world ∷ earlier → s.marks.scanned ≡ [] → length c.marked ≡ item_count z
+    → MarksShow o s.world.units c s.marks.kept s.marks.fresh s.marks.scanned → CanShade o.firsts (InRoots roots count) c.marked heads
+    → KeepRun z o (all_greyed c heads) s (names_at o.names heads)
+keep_run z o roots s earlier c [] count apart ns us rs living marking started agreed moments black len marks can = record {
   legal = tt;
   world = refl;
   asked = refl;
-  marks = rw (append-nil listed, append-nil grey) marks;
+  marks = marks;
   roots = tt;
 }
-keep_run z o roots s earlier marked listed grey (head ∷ heads) count apart ns us rs living marking started agreed moments black len marks can =
+keep_run z o roots s earlier c (head ∷ heads) count apart ns us rs living marking started agreed moments black len marks can =
     let r = can.0 in
-    let root = root_at ns us rs living r.0 r.2 in
+    let root = root_at ns us rs living r.0 r.1.1 in
     let unit = us.each r.0 root.1.life in
     let u = unit.0 in
-    let stands : StandsAt o s.world.units head u = subst (λ (x : ℕ). StandsAt o s.world.units x u) r.3 unit.1 in
+    let stands : StandsAt o s.world.units head u = subst (λ (x : ℕ). StandsAt o s.world.units x u) r.2 unit.1 in
     let member = member_at us head u stands in
     let n = member.0 in
     let entry : Entry = record { pass = Collector; act = act.Kept n } in
-    let inside : head < length marked = omega (arith, subst (λ (x : ℕ). x < item_count z) r.3 (us.in_range r.0)) in
+    let inside : head < length c.marked = omega (arith, subst (λ (x : ℕ). x < item_count z) r.2 (us.in_range r.0)) in
     let unit_is : unit_of s.world n ≡ u = own_unit s.world apart u n stands.among member.2 in
-    let has_root : has u root.0 ≡ true = stands.whole r.0 root.0 root.1 r.3 in
+    let has_root : has u root.0 ≡ true = stands.whole r.0 root.0 root.1 r.2 in
     let is_root : IsRootUnit (graph s.world) (unit_of s.world n) = subst (λ (v : List Name). IsRootUnit (graph s.world) v) (sym unit_is) (root.0, has_root, inl root.2) in
-    let rest = keep_run z o roots (next s entry) s.marks.moments (set marked head true) (listed ++ head ∷ []) (grey ++ head ∷ []) heads count apart ns us rs living marking started refl refl black
-    (length-set marked head true ∙ len)
+    let rest = keep_run z o roots (next s entry) s.marks.moments (greyed c head) heads count apart ns us rs living marking started refl refl black
+    (length-set c.marked head true ∙ len)
     (mark_one ns us apart head u n stands member.2 can.1 inside
     (λ e. absurd (none_has u (subst (λ (ns : List Name). list_any (has ns) u ≡ true) black e))) marks) can.2 in
     let may : MayBy z s Collector (act.Kept n) = record {
@@ -165,33 +155,38 @@ keep_run z o roots s earlier marked listed grey (head ∷ heads) count apart ns 
         root = subst (λ (ms : List World). AtSomeMoment ms (λ w. IsRootUnit (graph w) (unit_of s.world n))) (sym moments) (inl is_root);
       };
     } in
-    let whole : KeepRun z o (all_set marked (head ∷ heads)) ((listed ++ head ∷ []) ++ heads) ((grey ++ head ∷ []) ++ heads) s (n ∷ names_at o.names heads) = record {
+    let whole : KeepRun z o (all_greyed c (head ∷ heads)) s (n ∷ names_at o.names heads) = record {
       legal = (may, rest.legal);
       world = rest.world;
       asked = rest.asked;
       marks = rest.marks;
       roots = (is_root, rest.roots);
     } in
-    subst (λ (q : Option Name). KeepRun z o (all_set marked (head ∷ heads)) (listed ++ head ∷ heads) (grey ++ head ∷ heads) s (option_to_list q ++ names_at o.names heads)) (sym member.1.name)
-    (subst (λ (xs : List ℕ). KeepRun z o (all_set marked (head ∷ heads)) xs (grey ++ head ∷ heads) s (n ∷ names_at o.names heads)) (append_assoc listed (head ∷ []) heads)
-    (subst (λ (xs : List ℕ). KeepRun z o (all_set marked (head ∷ heads)) ((listed ++ head ∷ []) ++ heads) xs s (n ∷ names_at o.names heads)) (append_assoc grey (head ∷ []) heads) whole))
+    subst (λ (q : Option Name). KeepRun z o (all_greyed c (head ∷ heads)) s (option_to_list q ++ names_at o.names heads)) (sym member.1.name) whole
 
 -- ---- a collection starts
 
 -- nothing is marked
-unmarked : (o : Objects) (units : List (List Name)) (marked : List Bool) → ((i : ℕ) → get_or marked i false ≡ false) → MarksShow o units marked [] [] [] [] []
-unmarked o units marked clear = record {
-  bits = λ head u t. clear head ∙ sym (none_any u);
-  listed_marked = λ head a. absurd a;
-  distinct = tt;
+abbrev pub unpainted : ℕ → Painted
+unpainted n = record { marked = replicate n false; listed = []; scanned = 0 }
+
+pub none_marked : (n i : ℕ) → get_or (replicate n false) i false ≡ false
+none_marked n i = dite (dec_le n i)
+    (λ (past : n ≤ i). get_or_past (replicate n false) i false (omega (arith, length-replicate n false)))
+    (λ (inside : ¬ (n ≤ i)). get_or-replicate n i false false (lt_of_not-le inside))
+
+unmarked : (o : Objects) (units : List (List Name)) (n : ℕ) → MarksShow o units (unpainted n) [] [] []
+unmarked o units n = record {
+  bits = λ head u t. none_marked n head ∙ sym (none_any u);
+  worklist = record { distinct = tt; set = λ head a. absurd a };
+  order = omega arith;
   grey_units = λ head a. absurd a;
   all_grey = λ head u t e. absurd (none_has u (and_true _ _ e).0);
 }
 
-module _ {z : Sizes} {p : Parts} {h new : List Entry} {cleared marked : List Bool} {work : List ℕ} {pushed : ℕ} (was : IsPlain z p h)
+module _ {z : Sizes} {p : Parts} {h new : List Entry} {c : Painted} (was : IsPlain z p h)
     (open_none : count_by (λ is_open. is_open) p.frames ≡ 0) (idle : p.phase ≡ Idle) (none_left : p.left ≡ 0)
-    (count : ℕ) (count_is : count ≡ length p.marked) (clear : Filled p.marked cleared 0 count (λ k. false))
-    (keeps : Keeps p.names p.firsts p.roots (length p.roots) cleared marked p.work work pushed (h ++ record { pass = Collector; act = act.BeginGc begin.Started } ∷ []) new) where
+    (sh : Shades p.names p.firsts (InRoots p.roots (length p.roots)) Collector (unpainted (length p.marked)) c (h ++ record { pass = Collector; act = act.BeginGc begin.Started } ∷ []) new) where
   abbrev s : Shows z p (state_of h)
   s = was.shows
 
@@ -202,7 +197,7 @@ module _ {z : Sizes} {p : Parts} {h new : List Entry} {cleared marked : List Boo
   s1 = next (state_of h) started_entry
 
   abbrev heads : List ℕ
-  heads = take pushed work
+  heads = sh.heads
 
   abbrev of : List Name
   of = names_at p.names heads
@@ -210,25 +205,20 @@ module _ {z : Sizes} {p : Parts} {h new : List Entry} {cleared marked : List Boo
   abbrev notes : List Entry
   notes = by Collector (map act.Kept of)
 
-  all_clear : (i : ℕ) → get_or cleared i false ≡ false
-  all_clear i = dite (dec_le (length p.marked) i)
-      (λ (b : length p.marked ≤ i). get_or_past cleared i false (omega (arith, clear.len)))
-      (λ (b : ¬ (length p.marked ≤ i)). let lt = lt_of_not-le b in from_start clear i false (omega arith))
-
   removals_none : (after h).removals ≡ []
   removals_none = none_of_none _ (sym (left_idle _ _ _ _ s.removed.left_is idle) ∙ none_left)
 
-  ran : KeepRun z p.objects (all_set cleared heads) heads heads s1 of
+  ran : KeepRun z p.objects (all_greyed (unpainted (length p.marked)) heads) s1 of
   ran =
-      keep_run z p.objects p.roots s1 [] cleared [] [] heads (length p.roots) (units_apart z h was.legal) s.names s.units s.roots
-      (named_lives_holds z h was.legal).rooted refl refl refl refl refl (clear.len ∙ s.work.marked_len)
-      (unmarked p.objects (after h).units cleared all_clear) keeps.can
+      keep_run z p.objects p.roots s1 [] (unpainted (length p.marked)) heads (length p.roots) (units_apart z h was.legal) s.names s.units s.roots
+      (named_lives_holds z h was.legal).rooted refl refl refl refl refl (length-replicate (length p.marked) false ∙ s.marked_len)
+      (unmarked p.objects (after h).units (length p.marked)) sh.can
 
   may_start : MayBy z (state_of h) Collector (act.BeginGc begin.Started)
   may_start = record { finishes = was.rest.between.agreed; may = (record { idle = sym s.phase ∙ idle; released = removals_none }, none_of_none _ (sym s.frames.count ∙ open_none)) }
 
   abbrev q : Parts
-  q = record p { gate = record (p.gate) { phase = Marking }; colours = record { marked = marked; work = work; scanned = 0; pushed = pushed } }
+  q = record p { gate = record (p.gate) { phase = Marking }; colours = c }
 
   abbrev end : State
   end = run s1 notes
@@ -255,26 +245,16 @@ module _ {z : Sizes} {p : Parts} {h new : List Entry} {cleared marked : List Boo
     roots = s.roots;
     garbage = s.garbage;
     colours = record {
-      work = record {
-        marked_len = ap (λ (xs : List Bool). length xs) keeps.bits ∙ length-all_set cleared heads ∙ clear.len ∙ s.work.marked_len;
-        work_len = keeps.room ∙ s.work.work_len;
-        order = omega arith;
-        few = omega (arith, keeps.few, s.roots.bits.len);
-        entries = λ k b.
-            let len : length heads ≡ pushed = length-take-le pushed work (omega (arith, keeps.few, keeps.room, s.roots.bits.len, s.work.work_len)) in
-            let same = get_or-take pushed work k 0 b in
-            let t = can_below p.firsts p.roots cleared (length p.roots) (item_count z) heads s.units.in_range keeps.can (get_or heads k 0) (get_or_among heads k 0 (omega arith)) in
-            omega arith;
-      };
+      marked_len = shades_len sh ∙ length-replicate (length p.marked) false ∙ s.marked_len;
       idle = λ ne. absurd (ne refl);
-      marks = λ e. subst (λ (bits : List Bool). MarksShow p.objects (after h).units bits heads heads end.marks.kept end.marks.fresh end.marks.scanned) (sym keeps.bits) ran.marks;
+      marks = λ e. subst (λ (x : Painted). MarksShow p.objects (after h).units x end.marks.kept end.marks.fresh end.marks.scanned) (sym sh.colours) ran.marks;
     };
     stock = s.stock;
     ends = record { removed = removed_marking; gone = s.gone; room = s.room; gathers = λ e. absurd cc; queue = λ e. absurd cc; none_asked = λ ne. ran.asked };
   }
 
   whole : new ≡ h ++ started_entry ∷ notes
-  whole = keeps.entries ∙ append_assoc h (started_entry ∷ []) notes
+  whole = sh.entries ∙ append_assoc h (started_entry ∷ []) notes
 
   each_root : (u : List Name) → IsUnit (graph (after h)) u → IsRootUnit (graph (after h)) u → list_any (has u) of ≡ true
   each_root u unit (r, has_r, inl rooted) =
@@ -282,14 +262,14 @@ module _ {z : Sizes} {p : Parts} {h new : List Entry} {cleared marked : List Boo
       let j = at.1.inside r has_r in
       let below : j.0 < item_count z = omega (arith, name_below p.names j.0 r j.1.name, s.names.items) in
       let bit : get_or p.roots j.0 false ≡ true = s.roots.bits.each j.0 false below ∙ ap (rooted_at (after h).rooted) j.1.name ∙ rooted in
-      let set_now : get_or (all_set cleared heads) at.0 false ≡ true =
-      ap (λ (xs : List Bool). get_or xs at.0 false) (sym keeps.bits) ∙ ap (λ (x : ℕ). get_or marked x false) (sym j.2)
-      ∙ keeps.each j.0 (omega (arith, s.roots.bits.len)) bit in
+      let set_now : get_or (all_greyed (unpainted (length p.marked)) heads).marked at.0 false ≡ true =
+      ap (λ (x : Painted). get_or x.marked at.0 false) (sym sh.colours) ∙ ap (λ (x : ℕ). get_or c.marked x false) (sym j.2)
+      ∙ sh.each j.0 (omega (arith, s.roots.bits.len), bit) in
       let member = member_at s.units at.0 u at.1 in
-      among_test (has u) of member.0 (among_names_at p.names heads at.0 member.0 (listed at.0 (set_among cleared heads at.0 set_now)) member.1.name) member.2
+      among_test (has u) of member.0 (among_names_at p.names heads at.0 member.0 (listed at.0 (set_among (unpainted (length p.marked)) heads at.0 set_now)) member.1.name) member.2
     where
-      listed : (x : ℕ) → (get_or cleared x false ≡ true) ⊎ Among heads x → Among heads x
-      listed x (inl e) = absurd (let t = all_clear x in cc)
+      listed : (x : ℕ) → (get_or (replicate (length p.marked) false) x false ≡ true) ⊎ Among heads x → Among heads x
+      listed x (inl e) = absurd (let t = none_marked (length p.marked) x in cc)
       listed x (inr a) = a
   each_root u unit (r, has_r, inr (lane, number, is)) = absurd (let none = s.roots.no_strong lane number in cc)
 

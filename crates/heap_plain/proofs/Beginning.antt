@@ -35,7 +35,7 @@ new_parts lanes quota slots = record {
   rows = record { kinds = replicate (lanes * quota) no_kind; targets = replicate (lanes * quota * slots) None; plains = replicate (lanes * quota * slots) 0 };
   roots = replicate (lanes * quota) false;
   garbage = replicate (lanes * quota) false;
-  colours = record { marked = replicate (lanes * quota) false; work = replicate (lanes * quota) 0; scanned = 0; pushed = 0 };
+  colours = record { marked = replicate (lanes * quota) false; listed = []; scanned = 0 };
   stock = record { free = full_stacks quota lanes; spare = replicate lanes quota; made = replicate lanes 0 };
   ends = record {
     left = 0;
@@ -152,7 +152,7 @@ begins z lawful = record {
     };
     garbage = record { len = length-replicate _ _; each = λ i n there. absurd (no_name _ i n there.name) };
     colours = record {
-      work = record { marked_len = length-replicate _ _; work_len = length-replicate _ _; order = omega arith; few = omega arith; entries = λ k h. absurd (omega arith) };
+      marked_len = length-replicate _ _;
       idle = λ ne. refl;
       marks = λ e. absurd cc;
     };

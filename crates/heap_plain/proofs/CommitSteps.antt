@@ -1,10 +1,10 @@
 -- Committing a collection.
-use Rattle.std.proofs.Common.{◌≡◌, ◌≢◌, ℕ, ◌-◌, ◌<◌, ◌≤◌, ◌&&◌, ◌||◌, not, refl, sym, subst, ap, ◌∙◌, inl, inr, arith, Bool, true, false, List, [], ◌∷◌, ◌++◌, length, get_or, map, take, filter, count_by, count_ones, Option, Some, None}
+use Rattle.std.proofs.Common.{◌≡◌, ◌≢◌, ℕ, ◌-◌, ◌<◌, ◌≤◌, ◌&&◌, ◌||◌, not, refl, sym, subst, ap, ◌∙◌, inl, inr, arith, Bool, true, false, List, [], ◌∷◌, ◌++◌, length, get_or, map, filter, count_by, count_ones, Option, Some, None}
 use Rattle.std.proofs.Math.Logic.{dite}
 use Rattle.std.proofs.Math.Decide.{dec_le}
 use Rattle.std.proofs.Math.Nat.{lt_of_not-le}
 use Rattle.std.proofs.lemmas.Bool.{both_ways, false_from_ne_true}
-use Rattle.std.proofs.lemmas.List.{get_or_past, length-drop, length-take-le}
+use Rattle.std.proofs.lemmas.List.{get_or_past, length-drop}
 use Rattle.world_model.specs.Sizes.{Sizes, item_count}
 use Rattle.world_model.specs.NameLists.{same_name, has, members}
 use Rattle.world_model.specs.World.{World, Removal, Removed as AtRemoved, occupied}
@@ -34,7 +34,7 @@ use Rattle.heap_plain.specs.Lists.{Distinct}
 use Rattle.heap_plain.specs.Units.{UnitsShow, StandsAt, LivesAt}
 use Rattle.heap_plain.specs.Roots.{RootsShow, rooted_at}
 use Rattle.heap_plain.specs.Cells.{CellsShow}
-use Rattle.heap_plain.specs.Colouring.{grey_of}
+use Rattle.heap_plain.specs.Painted.{Painted, grey_of}
 use Rattle.heap_plain.specs.Stocking.{FreeShows, free_at}
 use Rattle.heap_plain.specs.Destroying.{RemovedShow, removal_of, removal_at, GoneShow, LiesAt, at_end}
 use Rattle.heap_plain.specs.Plain.{Shows, IsPlain}
@@ -50,14 +50,14 @@ use Rattle.heap_plain.proofs.SliceSteps.{filter_none, grey_empty}
 
 -- ---- the worklist and the grey units
 
-grey_len : {z : Sizes} {p : Parts} (s : State) → Shows z p s → length (grey_of p.work p.scanned p.pushed) ≡ p.pushed - p.scanned
-grey_len {p = p} s h = length-drop p.scanned (take p.pushed p.work) ∙ ap (λ (k : ℕ). k - p.scanned) (length-take-le p.pushed p.work (omega (arith, h.work.few, h.work.work_len)))
+grey_len : (c : Painted) → length (grey_of c) ≡ length c.listed - c.scanned
+grey_len c = length-drop c.scanned c.listed
 
-none_grey : {z : Sizes} {p : Parts} (s : State) → Shows z p s → p.pushed - p.scanned ≡ 0 → grey_units s ≡ []
+none_grey : {z : Sizes} {p : Parts} (s : State) → Shows z p s → length p.listed - p.scanned ≡ 0 → grey_units s ≡ []
 none_grey {p = p} s h e = grey_empty s.world.phase s.marks s.world.units (λ marking. filter_none (is_grey s.marks) s.world.units (λ u a is.
     let at = h.units.all u a in
     let among = (h.marks (h.phase ∙ marking)).all_grey at.0 u at.1 is in
-    absurd (subst (λ (xs : List ℕ). Among xs at.0) (none_of_none (grey_of p.work p.scanned p.pushed) (grey_len s h ∙ e)) among)))
+    absurd (subst (λ (xs : List ℕ). Among xs at.0) (none_of_none (grey_of p.colours) (grey_len p.colours ∙ e)) among)))
 
 grey_marking : (phase : Phase) (m : Marks) (units : List (List Name)) → phase ≡ Marking → grey_in phase m units ≡ filter (is_grey m) units
 grey_marking Marking m units e = refl
@@ -72,9 +72,9 @@ among_some : {A : Type 0} (xs : List A) (x : A) → Among xs x → 0 < length xs
 among_some [] x a = absurd a
 among_some (y ∷ xs) x a = omega arith
 
-some_grey : {z : Sizes} {p : Parts} (s : State) → Shows z p s → p.phase ≡ Marking → 0 < p.pushed - p.scanned → 0 < length (grey_units s)
+some_grey : {z : Sizes} {p : Parts} (s : State) → Shows z p s → p.phase ≡ Marking → 0 < length p.listed - p.scanned → 0 < length (grey_units s)
 some_grey {p = p} s h e more =
-    let first = first_of (grey_of p.work p.scanned p.pushed) (omega (arith, grey_len s h)) in
+    let first = first_of (grey_of p.colours) (omega (arith, grey_len p.colours)) in
     let r = (h.marks e).grey_units first.0 first.1 in
     rw (grey_marking s.world.phase s.marks s.world.units (sym h.phase ∙ e)) (among_some (filter (is_grey s.marks) s.world.units) r.0 (filter_among (is_grey s.marks) s.world.units r.0 r.1.among r.2))
 
@@ -88,7 +88,7 @@ some_not_none : {A : Type 0} (xs : List A) → 0 < length xs → xs ≢ []
 some_not_none xs h e = let len : length xs ≡ 0 = ap (λ (ys : List _). length ys) e in absurd (omega arith)
 
 may_refuse : {z : Sizes} {p : Parts} {h : List Entry} (reply : Commit) → IsPlain z p h
-    → MayEnd p.phase (p.pushed - p.scanned) (count_by (λ is_open. is_open) p.frames) reply → is_done reply ≡ false → CommitMay (state_of h) reply
+    → MayEnd p.phase (length p.listed - p.scanned) (count_by (λ is_open. is_open) p.frames) reply → is_done reply ≡ false → CommitMay (state_of h) reply
 may_refuse commit.Done was m other = absurd cc
 may_refuse (commit.NotMarking at) was m other = (m.0 ∙ was.shows.phase, λ e. m.1 (sym m.0 ∙ e))
 may_refuse {h = h} (commit.Unfinished word bits) was m other =
@@ -99,7 +99,7 @@ may_refuse commit.Stores was m other = absurd m
 may_refuse (commit.Frames n) was m other = (sym was.shows.phase ∙ m.0, (m.2 ∙ was.shows.frames.count, omega (arith, m.2, m.3)))
 
 commits_alone : {z : Sizes} {p : Parts} {h : List Entry} (reply : Commit) → IsPlain z p h
-    → MayEnd p.phase (p.pushed - p.scanned) (count_by (λ is_open. is_open) p.frames) reply → CommitsAlone (state_of h) reply
+    → MayEnd p.phase (length p.listed - p.scanned) (count_by (λ is_open. is_open) p.frames) reply → CommitsAlone (state_of h) reply
 commits_alone {h = h} commit.Done was m = record { unfinished = λ e. ((λ t. absurd cc), (λ ne. absurd (ne (none_grey (state_of h) was.shows m.1)))); no_stores = λ e. cc }
 commits_alone (commit.NotMarking at) was m = record { unfinished = λ e. absurd (m.1 (was.shows.phase ∙ e)); no_stores = λ e. cc }
 commits_alone {h = h} (commit.Unfinished word bits) was m = record { unfinished = λ e. ((λ t. some_not_none _ (some_grey (state_of h) was.shows m.0 m.1)), (λ ne. refl)); no_stores = λ e. cc }
@@ -108,7 +108,7 @@ commits_alone {h = h} (commit.Frames n) was m = record { unfinished = λ e. ((λ
 
 -- a refusal changes nothing
 pub refuses_commit : {z : Sizes} {p : Parts} {h : List Entry} (reply : Commit) → IsPlain z p h
-    → MayEnd p.phase (p.pushed - p.scanned) (count_by (λ is_open. is_open) p.frames) reply → is_done reply ≡ false
+    → MayEnd p.phase (length p.listed - p.scanned) (count_by (λ is_open. is_open) p.frames) reply → is_done reply ≡ false
     → Done z p h (h ++ record { pass = Collector; act = act.CommitGc reply } ∷ []) Collector (act.CommitGc reply)
 refuses_commit {z} {p} {h} reply was m other =
     does Collector (act.CommitGc reply) (act.CommitGc reply ∷ []) was (refl, commits_alone reply was m)
@@ -165,7 +165,7 @@ not_flip false e = refl
 not_flip true e = absurd cc
 
 module _ {z : Sizes} {p : Parts} {h : List Entry} {lives : List Life} (was : IsPlain z p h) (marking : p.phase ≡ Marking)
-    (black : p.pushed - p.scanned ≡ 0) (open_none : count_by (λ is_open. is_open) p.frames ≡ 0)
+    (black : length p.listed - p.scanned ≡ 0) (open_none : count_by (λ is_open. is_open) p.frames ≡ 0)
     (removes : Removes p.firsts p.marked p.lives lives (length p.lives)) {polls waiting : List ℕ}
     (cleared : Filled p.polls polls 0 (length p.polls) (λ k. 0))
     (copied : Filled p.waiting waiting 0 (length p.sizes) (λ k. get_or p.sizes k 0)) where
@@ -437,7 +437,7 @@ module _ {z : Sizes} {p : Parts} {h : List Entry} {lives : List Life} (was : IsP
     rows = record { kinds = s.kinds; cells = cells_kept };
     roots = roots_kept;
     garbage = garbage_fewer (λ i n a. record { name = a.name; life = (was_live i a.life).0 }) s.garbage;
-    colours = record { work = s.work; idle = λ ne. omega (arith, black, s.work.order); marks = λ e. absurd cc };
+    colours = record { marked_len = s.marked_len; idle = λ ne. omega (arith, black, (s.marks marking).order); marks = λ e. absurd cc };
     stock = record { made = s.made; free = free_kept };
     ends = record {
       removed = removed_kept;

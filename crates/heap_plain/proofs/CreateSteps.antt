@@ -32,7 +32,8 @@ use Rattle.heap_plain.specs.Stacks.{popped}
 use Rattle.heap_plain.specs.Units.{NamesShow, IsPlace, UnitsShow, StandsAt, LivesAt, AreLinked}
 use Rattle.heap_plain.specs.Roots.{RootsShow, rooted_at, GarbageShow}
 use Rattle.heap_plain.specs.Cells.{KindsShow, CellsShow, Aims}
-use Rattle.heap_plain.specs.Colouring.{WorkShows, MarksShow, pushed_of, grey_of}
+use Rattle.heap_plain.specs.Painted.{grey_of}
+use Rattle.heap_plain.specs.Colouring.{MarksShow}
 use Rattle.heap_plain.specs.Stocking.{FreeShows, spare_at}
 use Rattle.heap_plain.specs.Destroying.{RemovedShow, GoneShow, LiesAt}
 use Rattle.heap_plain.specs.Plain.{Shows, IsPlain}
@@ -45,6 +46,7 @@ use Rattle.heap_plain.proofs.Kinding.{slice_left, slice_right, lawful_fits}
 use Rattle.heap_plain.proofs.Cells.{aims_map}
 use Rattle.heap_plain.proofs.Finding.{removed_same_names}
 use Rattle.heap_plain.proofs.Standing.{one_head, live_used, links_same, lives_at}
+use Rattle.heap_plain.proofs.MarkSteps.{set_still}
 use Rattle.heap_plain.proofs.Popping.{lane_below, Where, where_is, popped_lane, popped_free, free_popped}
 use Rattle.heap_plain.proofs.NewNames.{length-names_from, has_in_row, row_place, count_row}
 
@@ -359,16 +361,8 @@ module _ {z : Sizes} {p : Parts} {h : List Entry} {l m : ℕ} {more : List Kind}
 
   -- ---- marks
 
-  work_new : WorkShows z marked' p.work p.scanned p.pushed
-  work_new = record { marked_len = length-set p.marked first true ∙ s.work.marked_len; work_len = s.work.work_len; order = s.work.order; few = s.work.few; entries = s.work.entries }
-
-  still_marked : (i : ℕ) → get_or p.marked i false ≡ true → get_or marked' i false ≡ true
-  still_marked i e = dite (ℕ_discrete i first)
-      (λ (here : i ≡ first). ap (λ (j : ℕ). get_or marked' j false) here ∙ get_or-set_same p.marked first true false (omega (arith, within, s.work.marked_len)))
-      (λ (ne : i ≢ first). get_or-set_other p.marked first i true false ne ∙ e)
-
   first_marked : get_or marked' first false ≡ true
-  first_marked = get_or-set_same p.marked first true false (omega (arith, within, s.work.marked_len))
+  first_marked = get_or-set_same p.marked first true false (omega (arith, within, s.marked_len))
 
   none_kept : list_any (has (state_of h).marks.kept) unit ≡ true → ⊥
   none_kept e =
@@ -392,16 +386,16 @@ module _ {z : Sizes} {p : Parts} {h : List Entry} {l m : ℕ} {more : List Kind}
   abbrev marks : Marks
   marks = (state_of h).marks
 
-  marks_new : p.phase ≡ Marking → MarksShow o' new_units marked' (pushed_of p.work p.pushed) (grey_of p.work p.scanned p.pushed) marks.kept (unit ++ marks.fresh) marks.scanned
+  marks_new : p.phase ≡ Marking → MarksShow o' new_units (record (p.colours) { marked = marked' }) marks.kept (unit ++ marks.fresh) marks.scanned
   marks_new marking = record {
     bits = λ head u t. bits head u (either_unit head u t);
-    listed_marked = λ head a. still_marked head (k.listed_marked head a);
-    distinct = k.distinct;
+    worklist = record { distinct = k.worklist.distinct; set = λ head a. set_still p.marked first head (k.worklist.set head a) };
+    order = k.order;
     grey_units = λ head a. let r = k.grey_units head a in (r.0, stands_old head r.0 r.1, r.2);
     all_grey = λ head u t. all_grey head u (either_unit head u t);
   }
     where
-      k : MarksShow p.objects (after h).units p.marked (pushed_of p.work p.pushed) (grey_of p.work p.scanned p.pushed) marks.kept marks.fresh marks.scanned
+      k : MarksShow p.objects (after h).units p.colours marks.kept marks.fresh marks.scanned
       k = s.marks marking
 
       bits : (head : ℕ) (u : List Name) → EitherUnit head u → get_or marked' head false ≡ list_any (λ n. has marks.kept n || has (unit ++ marks.fresh) n) u
@@ -410,7 +404,7 @@ module _ {z : Sizes} {p : Parts} {h : List Entry} {l m : ℕ} {more : List Kind}
           ap (λ (j : ℕ). get_or marked' j false) here ∙ first_marked
           ∙ sym (ap (λ (x : List Name). list_any (λ n. has marks.kept n || has (unit ++ marks.fresh) n) x) same ∙ unit_fresh marks.kept marks.fresh)
 
-      all_grey : (head : ℕ) (u : List Name) → EitherUnit head u → (list_any (has marks.kept) u && not (list_any (has marks.scanned) u)) ≡ true → Among (grey_of p.work p.scanned p.pushed) head
+      all_grey : (head : ℕ) (u : List Name) → EitherUnit head u → (list_any (has marks.kept) u && not (list_any (has marks.scanned) u)) ≡ true → Among (grey_of p.colours) head
       all_grey head u (inl t) e = k.all_grey head u t e
       all_grey head u (inr (same, here)) e = absurd (none_kept (ap (λ (x : List Name). list_any (has marks.kept) x) (sym same) ∙ (and_true _ _ e).0))
 
@@ -608,7 +602,7 @@ module _ {z : Sizes} {p : Parts} {h : List Entry} {l m : ℕ} {more : List Kind}
     rows = record { kinds = kinds_new; cells = cells_new };
     roots = roots_new;
     garbage = garbage_new;
-    colours = record { work = work_new; idle = s.idle; marks = marks_new };
+    colours = record { marked_len = length-set p.marked first true ∙ s.marked_len; idle = s.idle; marks = marks_new };
     stock = record { made = made_new; free = free_new };
     ends =
         record {

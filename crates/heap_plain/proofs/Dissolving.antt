@@ -1,10 +1,7 @@
 -- A unit is taken apart by one call.
-use Rattle.std.proofs.Common.{◌≡◌, ◌≢◌, ℕ, ◌-◌, ◌<◌, ◌≤◌, suc, refl, sym, subst, subst₂, ap, ◌∙◌, inr, arith, true, List, [], ◌∷◌, ◌++◌, map, length, append_assoc, append-nil, get_or, Option, Some, IsSome, is_some}
+use Rattle.std.proofs.Common.{◌≡◌, ◌≢◌, ℕ, ◌-◌, ◌<◌, ◌≤◌, suc, refl, sym, subst, subst₂, ap, ◌∙◌, arith, true, List, [], ◌∷◌, ◌++◌, map, length, append_assoc, append-nil, get_or, Option, Some, IsSome, is_some}
 use Rattle.std.proofs.Math.ListN.{set}
 use Rattle.std.proofs.lemmas.List.{map-append}
-use Rattle.std.proofs.Math.Logic.{dite}
-use Rattle.std.proofs.Math.Decide.{dec_le}
-use Rattle.std.proofs.Math.Nat.{lt_of_not-le}
 use Rattle.world_model.specs.Sizes.{Sizes, item_count}
 use Rattle.world_model.specs.NameLists.{has, ends_with, but_last}
 use Rattle.world_model.specs.World.{unit_of}
@@ -16,7 +13,6 @@ use Rattle.world_model.specs.Calls.{by, Appends}
 use Rattle.world_model.specs.Follows.{MayAsk}
 use Rattle.world_model.proofs.Joins.{histories_join, by-append}
 use Rattle.world_model.proofs.Inductions.{one_more}
-use Rattle.world_model.proofs.Units.{units_apart}
 use Rattle.world_model.proofs.Loosening.{ends_some}
 use Rattle.world_model.proofs.Dissolving.{none_loosened}
 use Rattle.world_model.proofs.Answering.{IsMidway, starts_midway, last_of, leaves, midway1, ready_closes}
@@ -24,29 +20,22 @@ use Rattle.heap_plain.specs.Types.{Name, Ref, Lane, Marking, Entry}
 use Rattle.heap_plain.specs.Types.act
 use Rattle.heap_plain.specs.Parts.{Parts, Objects, Shown, Holds, name_at, first_at}
 use Rattle.heap_plain.specs.Filling.{Filled}
-use Rattle.heap_plain.specs.Listing.{chained, chain}
+use Rattle.heap_plain.specs.Listing.{chained}
 use Rattle.heap_plain.specs.Units.{UnitsShow, StandsAt}
-use Rattle.heap_plain.specs.Colouring.{WorkShows}
 use Rattle.heap_plain.specs.Destroying.{GoneShow}
 use Rattle.heap_plain.specs.Plain.{Shows, IsPlain}
 use Rattle.heap_plain.specs.Parting.{IsParting}
-use Rattle.heap_plain.proofs.WorldFacts.{different_distinct}
 use Rattle.heap_plain.proofs.Counting.{occupied_next}
 use Rattle.heap_plain.proofs.Fillings.{from_start}
 use Rattle.heap_plain.proofs.Resting.{in_open, rests, keeps}
 use Rattle.heap_plain.proofs.Entries.{Done, does}
-use Rattle.heap_plain.proofs.Listings.{linked_named, linked_member, length-chain}
-use Rattle.heap_plain.proofs.Gathering.{few_named}
+use Rattle.heap_plain.proofs.Listings.{linked_member}
 use Rattle.heap_plain.proofs.Restaging.{lives_same, free_lives}
 use Rattle.heap_plain.proofs.Standing.{member_at, name_below}
 use Rattle.heap_plain.proofs.PartSteps.{named_last, front_size, units_left, gone_left, stands_front}
 use Rattle.heap_plain.proofs.RootSteps as root
 
 -- ---- the start
-
--- the vectors while a unit is taken apart
-abbrev pub with_work : Parts → List ℕ → Parts
-with_work p work = record p { colours = record (p.colours) { work = work } }
 
 module _ {z : Sizes} {p : Parts} {h : List Entry} {l : ℕ} {at : Ref} (was : IsPlain z p h) (frame : IsInFrame z h l)
     (held : Holds record { history = h; names = p.names } l at) (own : at.name.lane ≡ l) where
@@ -69,24 +58,11 @@ module _ {z : Sizes} {p : Parts} {h : List Entry} {l : ℕ} {at : Ref} (was : Is
   pub members_below : (k : ℕ) → k < count → chained p.next head k < item_count z
   members_below k b = let r = linked_member p.names p.next head u stands.linked k (omega (arith, stands.size)) in omega (arith, name_below p.names (chained p.next head k) r.0 r.1, s.names.items)
 
-  pub room : count ≤ item_count z
-  room =
-      let few = few_named p.names (chain p.next head (length u)) u (linked_named p.names p.next head u stands.linked) (different_distinct u ((units_apart z h was.legal).different u stands.among)) in
-      omega (arith, stands.size, length-chain p.next head (length u), s.names.items)
+  pub room : count ≤ 1024
+  room = s.units.small head
 
-  module _ (unmarked : p.phase ≢ Marking) (work' : List ℕ) (listed : Filled p.work work' 0 count (chained p.next head)) where
-    work_listed : WorkShows z p.marked work' p.scanned p.pushed
-    work_listed = record {
-      marked_len = s.work.marked_len;
-      work_len = listed.len ∙ s.work.work_len;
-      order = s.work.order;
-      few = s.work.few;
-      entries = λ k b. dite (dec_le count k)
-          (λ (out : count ≤ k). omega (arith, listed.outside k 0 (inr (omega arith)), s.work.entries k b))
-          (λ (no : ¬ (count ≤ k)). let inside : k < count = lt_of_not-le no in omega (arith, from_start listed k 0 inside, members_below k inside));
-    }
-
-    pub starts : IsParting z (record { history = h; names = p.names }) l at.name head count count (with_work p work') h
+  module _ (unmarked : p.phase ≢ Marking) (old members : List ℕ) (listed : Filled old members 0 count (chained p.next head)) (enough : count ≤ length old) where
+    pub starts : IsParting z (record { history = h; names = p.names }) l at.name head count count members p h
     starts =
         let unit_is = root.unit_is was frame held in
         let ask : MayAsk (state_of h) l at.name = record { held = held.given; own = own; none_owed = was.rest.between.paid l; none_broken = was.rest.between.whole l } in
@@ -95,23 +71,13 @@ module _ {z : Sizes} {p : Parts} {h : List Entry} {l : ℕ} {at : Ref} (was : Is
           of = [];
           grown = sym (append-nil h);
           legal = was.legal;
-          shows =
-              record {
-                gate = s.gate;
-                objects = s.objects;
-                rows = s.rows;
-                roots = s.roots;
-                garbage = s.garbage;
-                colours = record { work = work_listed; idle = s.idle; marks = λ m. absurd (unmarked m) };
-                stock = s.stock;
-                ends = s.ends;
-              };
+          shows = s;
           front = u;
           stands = stands;
           midway = subst (λ (v : List Name). IsMidway z (state_of h) l (unit_of (after h) at.name) v) unit_is (starts_midway z h l at.name was.legal frame.in_range ask (λ e. unmarked (s.phase ∙ e)));
           counted = stands.size ∙ ap (λ (v : List Name). length v) (sym unit_is);
           size = stands.size;
-          room = omega (arith, room, listed.len, s.work.work_len);
+          room = omega (arith, enough, listed.len);
           listed = λ k b. from_start listed k 0 b;
           member = ap (λ (v : List Name). has v at.name) unit_is ∙ root.member was frame held;
           own = own;
@@ -129,7 +95,7 @@ module _ {z : Sizes} {p : Parts} {h : List Entry} {l : ℕ} {at : Ref} (was : Is
 leaving_more : (lane : ℕ) (of : List Name) (n : Name) → by (Lane lane) (map act.Loose (of ++ n ∷ [])) ≡ by (Lane lane) (map act.Loose of) ++ record { pass = Lane lane; act = act.Loose n } ∷ []
 leaving_more lane of n = ap (by (Lane lane)) (map-append act.Loose of (n ∷ [])) ∙ by-append (Lane lane) (map act.Loose of) (act.Loose n ∷ [])
 
-module _ {z : Sizes} {old : Shown} {lane : ℕ} {at : Name} {head count left : ℕ} {p : Parts} {h : List Entry} (i : IsParting z old lane at head count left p h) where
+module _ {z : Sizes} {old : Shown} {lane : ℕ} {at : Name} {head count left : ℕ} {members : List ℕ} {p : Parts} {h : List Entry} (i : IsParting z old lane at head count left members p h) where
   abbrev k : Shows z p (state_of h)
   k = i.shows
 
@@ -139,7 +105,7 @@ module _ {z : Sizes} {old : Shown} {lane : ℕ} {at : Name} {head count left : �
   abbrev gone_to : ℕ
   gone_to = chained p.next head next_to
 
-  pub last_listed : 1 < left → get_or p.work next_to 0 ≡ gone_to
+  pub last_listed : 1 < left → get_or members next_to 0 ≡ gone_to
   last_listed more = i.listed next_to (omega arith)
 
   last_member : 1 < left → (n : Name) × (name_at p.names gone_to ≡ Some n) × (has i.front n ≡ true)
@@ -203,7 +169,7 @@ module _ {z : Sizes} {old : Shown} {lane : ℕ} {at : Name} {head count left : �
       rows = k.rows;
       roots = k.roots;
       garbage = k.garbage;
-      colours = record { work = k.work; idle = k.idle; marks = λ m. absurd (i.unmarked m) };
+      colours = record { marked_len = k.marked_len; idle = k.idle; marks = λ m. absurd (i.unmarked m) };
       stock = record { made = k.made; free = free_lives (lives_same p.lives) (λ l. let t = occupied_next z h e i.legal may_leave l in omega arith) k.free };
       ends = record {
         removed = k.removed;
@@ -217,7 +183,7 @@ module _ {z : Sizes} {old : Shown} {lane : ℕ} {at : Name} {head count left : �
       };
     }
 
-    pub goes_on : IsParting z old lane at head count next_to q new
+    pub goes_on : IsParting z old lane at head count next_to members q new
     goes_on = record {
       rest = i.rest;
       of = i.of ++ n ∷ [];

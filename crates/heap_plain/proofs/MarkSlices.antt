@@ -1,8 +1,8 @@
 -- A slice of marking.
-use Rattle.std.proofs.Common.{◌≡◌, ◌≢◌, ℕ, ◌+◌, ◌<◌, ◌≤◌, not, refl, sym, subst, ap, ◌∙◌, inl, inr, zero, suc, arith, Bool, true, false, List, [], ◌∷◌, ◌++◌, length, length-append, get_or, map, take, drop, ◌⊎◌, filter, append_assoc, Option, Some, IsSome, is_some}
+use Rattle.std.proofs.Common.{◌≡◌, ◌≢◌, ℕ, ◌+◌, ◌<◌, ◌≤◌, not, refl, sym, subst, ap, ◌∙◌, inl, inr, arith, true, false, List, [], ◌∷◌, ◌++◌, length, get_or, map, ◌⊎◌, filter, append_assoc, Option, Some, IsSome, is_some}
 use Rattle.std.specs.List.{list_any, list_all}
 use Rattle.std.proofs.lemmas.Bool.{and_from}
-use Rattle.std.proofs.lemmas.List.{drop-append-le, drop_all, drop_more, length-take-le, get_or-take}
+use Rattle.std.proofs.lemmas.List.{drop_all, drop_more}
 use Rattle.world_model.specs.Sizes.{Sizes, item_count}
 use Rattle.world_model.specs.NameLists.{same_pass, has}
 use Rattle.world_model.specs.World.{World, is_open}
@@ -22,21 +22,21 @@ use Rattle.heap_plain.specs.Types.act
 use Rattle.heap_plain.specs.Types.stop
 use Rattle.heap_plain.specs.Parts.{Parts, Shown, Holds, name_at, first_at, kind_at, target_at}
 use Rattle.heap_plain.specs.Listing.{chained}
-use Rattle.heap_plain.specs.Notes.{names_at, all_set, StopsBy}
-use Rattle.heap_plain.specs.Shading.{InUnit, IsWorklist, Shades}
-use Rattle.heap_plain.specs.Lists.{Distinct}
+use Rattle.heap_plain.specs.Painted.{Painted, IsNextGrey, IsWorklist, all_greyed, blackened}
+use Rattle.heap_plain.specs.Notes.{names_at, StopsBy}
+use Rattle.heap_plain.specs.Shading.{InUnit, Shades}
 use Rattle.heap_plain.specs.Units.{StandsAt, LivesAt}
-use Rattle.heap_plain.specs.Colouring.{WorkShows, MarksShow, pushed_of, grey_of}
+use Rattle.heap_plain.specs.Colouring.{MarksShow}
 use Rattle.heap_plain.specs.Destroying.{Destroying}
 use Rattle.heap_plain.specs.Plain.{ShowsWorld, Shows, IsPlain, Sliced, IsSlicing}
 use Rattle.heap_plain.proofs.WorldFacts.{same_pass_refl, none_out, state_more}
-use Rattle.heap_plain.proofs.Noting.{by-append, length-all_set}
+use Rattle.heap_plain.proofs.Noting.{by-append}
+use Rattle.heap_plain.proofs.Shadings.{shades_len}
 use Rattle.heap_plain.proofs.Resting.{rests, keeps}
 use Rattle.heap_plain.proofs.Entries.{Done}
-use Rattle.heap_plain.proofs.Standing.{member_at, name_below, bit_below}
+use Rattle.heap_plain.proofs.Standing.{member_at, name_below}
 use Rattle.heap_plain.proofs.Listings.{linked_member}
 use Rattle.heap_plain.proofs.Cells.{aims_target, aims_name, cell_ref, cell_below}
-use Rattle.heap_plain.proofs.MarkSteps.{distinct_drop}
 use Rattle.heap_plain.proofs.SliceSteps.{linked_place, count_cons, filter_none, no_marker, not_true, marking_or_not, grey_empty}
 use Rattle.heap_plain.proofs.Needed.{keeps_append, keeps_opened}
 use Rattle.heap_plain.proofs.UnitSteps.{AtUnit, UnitRun, unit_run}
@@ -75,7 +75,7 @@ module _ (z : Sizes) (p : Parts) (h : List Entry) (marker budget : ℕ) (was : I
 -- ---- a unit is scanned
 
 module _ {z : Sizes} {old : Shown} {marker budget total : ℕ} {p : Parts} {history : List Entry} (i : IsSlicing z old marker budget total p history)
-    (range : marker < z.markers) (more : p.scanned < p.pushed) where
+    (range : marker < z.markers) {head : ℕ} (first : IsNextGrey p.colours head) where
   abbrev s : State
   s = state_of history
 
@@ -93,7 +93,7 @@ module _ {z : Sizes} {old : Shown} {marker budget total : ℕ} {p : Parts} {hist
     where
       go : (p.phase ≡ Marking) ⊎ (p.phase ≢ Marking) → p.phase ≡ Marking
       go (inl e) = e
-      go (inr ne) = absurd (let t = k.idle ne in omega arith)
+      go (inr ne) = absurd (omega (arith, k.idle ne, first.some))
 
   -- what was scanned was kept
   scanned_kept : (v : List Name) → Among w.units v → list_any (has s.marks.scanned) v ≡ true → list_any (has s.marks.kept) v ≡ true
@@ -101,23 +101,11 @@ module _ {z : Sizes} {old : Shown} {marker budget total : ℕ} {p : Parts} {hist
       (barred z history i.legal).tricolour.scanned_kept (ap (λ (x : World). x.phase) i.sliced.world ∙ sym k.phase ∙ marking) v
       (subst (λ (x : World). Among x.units v) (sym i.sliced.world) a)
 
-  abbrev head : ℕ
-  head = get_or p.work p.scanned 0
-
-  abbrev rest : List ℕ
-  rest = drop (p.scanned + 1) (take p.pushed p.work)
-
-  used : length (take p.pushed p.work) ≡ p.pushed
-  used = length-take-le p.pushed p.work (omega (arith, k.work.few, k.work.work_len))
-
-  grey_split : grey_of p.work p.scanned p.pushed ≡ head ∷ rest
-  grey_split = drop_more (take p.pushed p.work) p.scanned 0 (omega (arith, used)) ∙ ap (λ (x : ℕ). x ∷ rest) (get_or-take p.pushed p.work p.scanned 0 more)
-
-  abbrev m : MarksShow p.objects w.units p.marked (pushed_of p.work p.pushed) (grey_of p.work p.scanned p.pushed) s.marks.kept s.marks.fresh s.marks.scanned
+  abbrev m : MarksShow p.objects w.units p.colours s.marks.kept s.marks.fresh s.marks.scanned
   m = k.marks marking
 
   own : (u : List Name) × StandsAt p.objects w.units head u
-  own = let r = m.grey_units head (subst (λ (xs : List ℕ). Among xs head) (sym grey_split) (inl refl)) in (r.0, r.1)
+  own = let r = m.grey_units head (rw (drop_more p.listed p.scanned 0 first.some) (inl (sym first.first))) in (r.0, r.1)
 
   abbrev u : List Name
   u = own.0
@@ -131,14 +119,14 @@ module _ {z : Sizes} {old : Shown} {marker budget total : ℕ} {p : Parts} {hist
   abbrev At : ℕ → Type 0
   At = InUnit p.kinds z.slots p.targets p.next head size
 
-  pub head_below : head < item_count z
-  head_below = k.work.entries p.scanned more
+  leader : (n : Name) × LivesAt p.names p.lives head n × (has u n ≡ true)
+  leader = member_at k.units head u stands
 
-  first : (n : Name) × LivesAt p.names p.lives head n × (has u n ≡ true)
-  first = member_at k.units head u stands
+  pub head_below : head < item_count z
+  head_below = omega (arith, name_below p.names head leader.0 leader.1.name, k.names.items)
 
   pub head_named : IsSome (name_at p.names head)
-  head_named = ap (λ (o : Option Name). is_some o) first.1.name
+  head_named = ap (λ (o : Option Name). is_some o) leader.1.name
 
   -- the object at an index of the unit
   member_of : (j : ℕ) → j < size → (n : Name) × LivesAt p.names p.lives (chained p.next head j) n × (has u n ≡ true)
@@ -179,17 +167,16 @@ module _ {z : Sizes} {old : Shown} {marker budget total : ℕ} {p : Parts} {hist
       let there = aims_name (target_at z.slots p.targets at.0 refers.slot) (w.cell refers.from refers.slot) refers.to (k.cells.aims at.0 refers.from refers.slot at.1 low) refers.cell in
       (there.0, looked_at at.0 refers.from refers.slot there.0 refers.to at.1 refers.member refers.cell there.1, refers.to, there.2, refers.target)
 
-  pub worklist : IsWorklist p.marked p.work p.pushed
-  worklist = record { distinct = m.distinct; set = m.listed_marked; room = k.work.marked_len ∙ sym k.work.work_len; used = used }
+  pub worklist : IsWorklist p.colours
+  worklist = m.worklist
 
-  module _ {marked' : List Bool} {work' : List ℕ} {pushed' : ℕ} {mid : List Entry} (less : total < budget) (n : Name)
-      (named : name_at p.names head ≡ Some n)
-      (sh : Shades p.names p.firsts At marker p.marked marked' p.work work' p.pushed pushed' history mid) where
+  module _ {c' : Painted} {mid : List Entry} (less : total < budget) (n : Name) (named : name_at p.names head ≡ Some n)
+      (sh : Shades p.names p.firsts At (Marker marker) p.colours c' history mid) where
     abbrev heads : List ℕ
     heads = sh.heads
 
     member : has u n ≡ true
-    member = stands.whole head n (record { name = named; life = first.1.life }) stands.own
+    member = stands.whole head n (record { name = named; life = leader.1.life }) stands.own
 
     abbrev w1 : World
     w1 = record w { opened = Marker marker ∷ w.opened }
@@ -215,59 +202,19 @@ module _ {z : Sizes} {old : Shown} {marker budget total : ℕ} {p : Parts} {hist
       reads = reads;
     }
 
-    grey_now : grey_of work' p.scanned pushed' ≡ head ∷ (rest ++ heads)
-    grey_now =
-        ap (λ (xs : List ℕ). drop p.scanned xs) sh.listed
-        ∙ drop-append-le p.scanned (take p.pushed p.work) heads (omega (arith, used))
-        ∙ ap (λ (xs : List ℕ). xs ++ heads) grey_split
-
-    grey_new : grey_of work' (p.scanned + 1) pushed' ≡ rest ++ heads
-    grey_new = ap (λ (xs : List ℕ). drop (p.scanned + 1) xs) sh.listed ∙ drop-append-le (p.scanned + 1) (take p.pushed p.work) heads (omega (arith, used))
-
     abbrev acts : List Act
     acts = map act.Kept (names_at p.names heads) ++ act.Scanned n ∷ []
 
     abbrev es : List Entry
     es = by (Marker marker) acts
 
-    ran : UnitRun z p.objects (all_set p.marked heads) (pushed_of p.work p.pushed ++ heads) (rest ++ heads) marker u t0 acts
-    ran = unit_run z p.objects t0 i.sliced.earlier marker u head n At p.marked (pushed_of p.work p.pushed) rest heads at_unit
-        (i.sliced.moments ∙ ap (λ (x : World). x ∷ i.sliced.earlier) i.sliced.world) k.work.marked_len
-        (subst (λ (xs : List ℕ). Distinct xs) grey_now (distinct_drop p.scanned (take pushed' work') sh.fits.distinct))
-        (subst (λ (xs : List ℕ). MarksShow p.objects w.units p.marked (pushed_of p.work p.pushed) xs s.marks.kept s.marks.fresh s.marks.scanned) grey_split m)
-        sh.can scanned_kept (λ t a. sym (ap (λ (xs : List Bool). get_or xs (first_at p.firsts t) false) sh.bits) ∙ sh.each t a)
-
-    pushed_is : pushed' ≡ p.pushed + length heads
-    pushed_is = sym sh.fits.used ∙ ap (λ (xs : List ℕ). length xs) sh.listed ∙ length-append (take p.pushed p.work) heads ∙ ap (λ (x : ℕ). x + length heads) used
-
-    marked_len : length marked' ≡ item_count z
-    marked_len = ap (λ (xs : List Bool). length xs) sh.bits ∙ length-all_set p.marked heads ∙ k.work.marked_len
-
-    work_new : WorkShows z marked' work' (p.scanned + 1) pushed'
-    work_new = record {
-      marked_len = marked_len;
-      work_len = sym sh.fits.room ∙ marked_len;
-      order = omega (arith, pushed_is);
-      few = let t = length-take_most pushed' work' in omega (arith, sh.fits.used, sh.fits.room, marked_len);
-      entries = λ j b.
-          let a = get_or_within (take pushed' work') j (omega (arith, sh.fits.used)) in
-          let same = get_or-take pushed' work' j 0 b in
-          let below = bit_below marked' (get_or (take pushed' work') j 0) (sh.fits.set (get_or (take pushed' work') j 0) a) in
-          omega (arith, marked_len);
-    }
-      where
-        length-take_most : (n : ℕ) (xs : List ℕ) → length (take n xs) ≤ length xs
-        length-take_most zero xs = omega arith
-        length-take_most (suc n) [] = omega arith
-        length-take_most (suc n) (x ∷ xs) = let t = length-take_most n xs in omega arith
-
-        get_or_within : (xs : List ℕ) (j : ℕ) → j < length xs → Among xs (get_or xs j 0)
-        get_or_within [] j h = absurd (omega arith)
-        get_or_within (x ∷ xs) zero h = inl refl
-        get_or_within (x ∷ xs) (suc j) h = inr (get_or_within xs j (omega arith))
+    ran : UnitRun z p.objects (blackened (all_greyed p.colours heads)) marker u t0 acts
+    ran = unit_run marker u head n At t0 i.sliced.earlier p.colours heads at_unit
+        (i.sliced.moments ∙ ap (λ (x : World). x ∷ i.sliced.earlier) i.sliced.world) k.marked_len first m
+        sh.can scanned_kept (λ t a. sym (ap (λ (x : Painted). get_or x.marked (first_at p.firsts t) false) sh.colours) ∙ sh.each t a)
 
     abbrev q : Parts
-    q = record p { colours = record { marked = marked'; work = work'; scanned = p.scanned + 1; pushed = pushed' } }
+    q = record p { colours = blackened c' }
 
     abbrev end : State
     end = run t0 es
@@ -280,12 +227,9 @@ module _ {z : Sizes} {old : Shown} {marker budget total : ℕ} {p : Parts} {hist
       roots = k.roots;
       garbage = k.garbage;
       colours = record {
-        work = work_new;
+        marked_len = shades_len sh ∙ k.marked_len;
         idle = λ ne. absurd (ne marking);
-        marks = λ e.
-            subst (λ (xs : List ℕ). MarksShow p.objects w.units marked' (pushed_of work' pushed') xs end.marks.kept end.marks.fresh end.marks.scanned) (sym grey_new)
-            (subst (λ (xs : List ℕ). MarksShow p.objects w.units marked' xs (rest ++ heads) end.marks.kept end.marks.fresh end.marks.scanned) (sym sh.listed)
-            (subst (λ (xs : List Bool). MarksShow p.objects w.units xs (pushed_of p.work p.pushed ++ heads) (rest ++ heads) end.marks.kept end.marks.fresh end.marks.scanned) (sym sh.bits) ran.marks));
+        marks = λ e. subst (λ (x : Painted). MarksShow p.objects w.units (blackened x) end.marks.kept end.marks.fresh end.marks.scanned) (sym sh.colours) ran.marks;
       };
       stock = k.stock;
       ends = subst (λ (last : Option Name). Destroying z p.phase p.objects p.ends w.removals w.last_removed w.found w.swept last) (sym ran.asked) k.ends;
@@ -340,7 +284,7 @@ module _ {z : Sizes} {old : Shown} {marker budget total : ℕ} {p : Parts} {hist
 -- ---- the slice closes
 
 module _ {z : Sizes} {old : Shown} {marker budget total : ℕ} {p : Parts} {history : List Entry} (i : IsSlicing z old marker budget total p history)
-    (range : marker < z.markers) (why : MarkStop) (stops : StopsBy total budget why) (done : total < budget → p.pushed ≤ p.scanned) where
+    (range : marker < z.markers) (why : MarkStop) (stops : StopsBy total budget why) (done : total < budget → length p.listed ≤ p.scanned) where
   abbrev c : State
   c = state_of history
 
@@ -361,10 +305,7 @@ module _ {z : Sizes} {old : Shown} {marker budget total : ℕ} {p : Parts} {hist
       (grey_empty v.phase c.marks v.units (λ e. filter_none (is_grey c.marks) v.units (λ unit a is.
       let at = h.units.all unit a in
       let among = (h.marks (h.phase ∙ e)).all_grey at.0 unit at.1 is in
-      let none : grey_of p.work p.scanned p.pushed ≡ [] =
-      drop_all p.scanned (take p.pushed p.work)
-      (omega (arith, done less, length-take-le p.pushed p.work (omega (arith, h.work.few, h.work.work_len)))) in
-      absurd (subst (λ (xs : List ℕ). Among xs at.0) none among))))
+      absurd (subst (λ (xs : List ℕ). Among xs at.0) (drop_all p.scanned p.listed (done less)) among))))
 
   may_stop : (how : MarkStop) → StopsBy total budget how → MayStop c marker budget reply how
   may_stop stop.Spent e = e

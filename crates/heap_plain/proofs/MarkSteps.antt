@@ -1,12 +1,12 @@
 -- Marking a unit, and the places of the worklist.
-use Rattle.std.proofs.Common.{◌≡◌, ◌≢◌, ℕ, ◌+◌, ◌<◌, ◌≤◌, ◌||◌, ◌&&◌, not, refl, sym, subst, ap, ◌∙◌, inl, inr, zero, suc, arith, Bool, true, false, List, [], ◌∷◌, ◌++◌, length, get_or, take, drop, ◌⊎◌}
+use Rattle.std.proofs.Common.{◌≡◌, ◌≢◌, ℕ, ◌<◌, ◌≤◌, ◌||◌, ◌&&◌, not, refl, sym, subst, ap, ◌∙◌, inl, inr, zero, suc, arith, Bool, true, false, List, [], ◌∷◌, ◌++◌, length, length-append, get_or, drop, ◌⊎◌}
 use Rattle.std.specs.List.{list_any}
 use Rattle.std.proofs.Math.ListN.{set}
 use Rattle.std.proofs.Math.Logic.{dite}
 use Rattle.std.proofs.Math.Decide.{ℕ_discrete}
 use Rattle.std.proofs.lemmas.Bool.{and_from}
-use Rattle.std.proofs.lemmas.List.{length-set, get_or-set_same, get_or-set_other, take_more_set, drop-append-le, length-take-le}
-use Rattle.world_model.specs.Sizes.{Sizes, item_count}
+use Rattle.std.proofs.lemmas.List.{get_or-set_same, get_or-set_other, drop-append-le}
+use Rattle.world_model.specs.Sizes.{Sizes}
 use Rattle.world_model.specs.NameLists.{same_name, has}
 use Rattle.world_model.proofs.ListFacts.{Among, among_append, and_true, or_right, among_left, among_right, test_among, among_test}
 use Rattle.world_model.proofs.NameFacts.{same_name_true, same_name_refl, has_among, among_has}
@@ -15,7 +15,8 @@ use Rattle.heap_plain.specs.Types.{Name, Kind}
 use Rattle.heap_plain.specs.Parts.{Objects}
 use Rattle.heap_plain.specs.Lists.{Distinct}
 use Rattle.heap_plain.specs.Units.{NamesShow, UnitsShow, StandsAt}
-use Rattle.heap_plain.specs.Colouring.{WorkShows, MarksShow, pushed_of, grey_of}
+use Rattle.heap_plain.specs.Painted.{Painted, IsWorklist, grey_of, greyed}
+use Rattle.heap_plain.specs.Colouring.{MarksShow}
 use Rattle.heap_plain.proofs.WorldFacts.{any_same, no_longer}
 use Rattle.heap_plain.proofs.Standing.{one_unit, head_of, bit_below}
 
@@ -54,6 +55,34 @@ among_below (suc n) k h = dite (ℕ_discrete n k) (λ (e : n ≡ k). inl e) (λ 
 pub few_below : (n : ℕ) (xs : List ℕ) → Distinct xs → ((k : ℕ) → Among xs k → k < n) → length xs ≤ n
 few_below n xs d less = let t = no_longer xs (below n) d (λ k h. among_below n k (less k h)) in omega (arith, length-below n)
 
+-- ---- the worklist
+
+pub set_still : (bits : List Bool) (x i : ℕ) → get_or bits i false ≡ true → get_or (set bits x true) i false ≡ true
+set_still bits x i e = dite (ℕ_discrete i x)
+    (λ (here : i ≡ x). ap (λ (j : ℕ). get_or (set bits x true) j false) here ∙ get_or-set_same bits x true false (subst (λ (j : ℕ). j < length bits) here (bit_below bits i e)))
+    (λ (ne : i ≢ x). get_or-set_other bits x i true false ne ∙ e)
+
+-- a white unit has room on it
+pub worklist_room : {c : Painted} (head : ℕ) → IsWorklist c → head < length c.marked → get_or c.marked head false ≡ false → length c.listed < length c.marked
+worklist_room {c} head w inside white =
+    let t = few_below (length c.marked) (head ∷ c.listed) ((λ a. let black_bit = w.set head a in absurd (cc)), w.distinct) small in
+    omega arith
+  where
+    small : (i : ℕ) → (head ≡ i) ⊎ Among c.listed i → i < length c.marked
+    small i (inl e) = omega arith
+    small i (inr a) = bit_below c.marked i (w.set i a)
+
+pub worklist_push : {c : Painted} (head : ℕ) → IsWorklist c → head < length c.marked → get_or c.marked head false ≡ false → IsWorklist (greyed c head)
+worklist_push {c} head w inside white = record {
+  distinct = distinct_snoc c.listed head w.distinct (λ a. let black_bit = w.set head a in absurd (cc));
+  set = λ i a. bit i (among_append c.listed (head ∷ []) i a);
+}
+  where
+    bit : (i : ℕ) → Among c.listed i ⊎ ((head ≡ i) ⊎ ⊥) → get_or (set c.marked head true) i false ≡ true
+    bit i (inl a) = set_still c.marked head i (w.set i a)
+    bit i (inr (inl e)) = ap (λ (j : ℕ). get_or (set c.marked head true) j false) (sym e) ∙ get_or-set_same c.marked head true false inside
+    bit i (inr (inr a)) = absurd a
+
 -- ---- one unit
 
 -- a unit with a kept member has one when more is kept
@@ -90,35 +119,27 @@ module _ {z : Sizes} {o : Objects} {kinds : ℕ → List Kind} {units : List (Li
   kept_there u kept n e = among_test (has (n ∷ kept)) u n (has_among u n e) (let t = same_name_refl n in rw t refl)
 
   -- a white unit is marked
-  pub mark_one : {marked : List Bool} {listed grey : List ℕ} {kept fresh scanned : List Name} (head : ℕ) (u : List Name) (n : Name) → Stands head u
-      → has u n ≡ true → get_or marked head false ≡ false → head < length marked → (list_any (has scanned) u ≡ true → list_any (has kept) u ≡ true)
-      → MarksShow o units marked listed grey kept fresh scanned
-      → MarksShow o units (set marked head true) (listed ++ head ∷ []) (grey ++ head ∷ []) (n ∷ kept) fresh scanned
-  mark_one {marked} {listed} {grey} {kept} {fresh} {scanned} head u n t e white inside sk k = record {
+  pub mark_one : {c : Painted} {kept fresh scanned : List Name} (head : ℕ) (u : List Name) (n : Name) → Stands head u
+      → has u n ≡ true → get_or c.marked head false ≡ false → head < length c.marked → (list_any (has scanned) u ≡ true → list_any (has kept) u ≡ true)
+      → MarksShow o units c kept fresh scanned → MarksShow o units (greyed c head) (n ∷ kept) fresh scanned
+  mark_one {c} {kept} {fresh} {scanned} head u n t e white inside sk k = record {
     bits = bits;
-    listed_marked = λ other a. listed_marked other (among_append listed (head ∷ []) other a);
-    distinct = distinct_snoc listed head k.distinct (λ a. let black = k.listed_marked head a in absurd (cc));
-    grey_units = λ other a. grey_units other (among_append grey (head ∷ []) other a);
-    all_grey = all_grey;
+    worklist = worklist_push head k.worklist inside white;
+    order = omega (arith, k.order, length-append c.listed (head ∷ []));
+    grey_units = λ other a. grey_units other (among_append (grey_of c) (head ∷ []) other (subst (λ (xs : List ℕ). Among xs other) grey_is a));
+    all_grey = λ other v q is. subst (λ (xs : List ℕ). Among xs other) (sym grey_is) (all_grey other v q is);
   }
     where
-      set_now : (other : ℕ) → other ≡ head → get_or (set marked head true) other false ≡ true
-      set_now other here = ap (λ (j : ℕ). get_or (set marked head true) j false) here ∙ get_or-set_same marked head true false inside
+      grey_is : grey_of (greyed c head) ≡ grey_of c ++ head ∷ []
+      grey_is = drop-append-le c.scanned c.listed (head ∷ []) k.order
 
-      still : (other : ℕ) → get_or marked other false ≡ true → get_or (set marked head true) other false ≡ true
-      still other is = dite (ℕ_discrete other head) (λ (here : other ≡ head). set_now other here) (λ (ne : other ≢ head). get_or-set_other marked head other true false ne ∙ is)
-
-      bits : (other : ℕ) (v : List Name) → Stands other v → get_or (set marked head true) other false ≡ list_any (λ m. has (n ∷ kept) m || has fresh m) v
+      bits : (other : ℕ) (v : List Name) → Stands other v → get_or (set c.marked head true) other false ≡ list_any (λ m. has (n ∷ kept) m || has fresh m) v
       bits other v q = dite (ℕ_discrete other head)
           (λ (here : other ≡ head).
           let same : u ≡ v = one_unit apart us head u v t (subst (λ (x : ℕ). Stands x v) here q) in
-          set_now other here ∙ sym (kept_now v kept fresh n (subst (λ (x : List Name). has x n ≡ true) same e)))
-          (λ (ne : other ≢ head). get_or-set_other marked head other true false ne ∙ k.bits other v q ∙ marked_same head other u v n kept fresh t q e ne)
-
-      listed_marked : (other : ℕ) → Among listed other ⊎ ((head ≡ other) ⊎ ⊥) → get_or (set marked head true) other false ≡ true
-      listed_marked other (inl a) = still other (k.listed_marked other a)
-      listed_marked other (inr (inl here)) = set_now other (sym here)
-      listed_marked other (inr (inr a)) = absurd a
+          ap (λ (j : ℕ). get_or (set c.marked head true) j false) here ∙ get_or-set_same c.marked head true false inside
+          ∙ sym (kept_now v kept fresh n (subst (λ (x : List Name). has x n ≡ true) same e)))
+          (λ (ne : other ≢ head). get_or-set_other c.marked head other true false ne ∙ k.bits other v q ∙ marked_same head other u v n kept fresh t q e ne)
 
       not_scanned : list_any (has scanned) u ≡ false
       not_scanned = go (list_any (has scanned) u) refl
@@ -130,50 +151,13 @@ module _ {z : Sizes} {o : Objects} {kinds : ℕ → List Kind} {units : List (Li
               let marked_now = k.bits head u t ∙ among_test (λ m. has kept m || has fresh m) u f.0 f.1 (rw f.2 refl) in
               absurd (let w = white in cc)
 
-      grey_units : (other : ℕ) → Among grey other ⊎ ((head ≡ other) ⊎ ⊥) → (v : List Name) × Stands other v × ((list_any (has (n ∷ kept)) v && not (list_any (has scanned) v)) ≡ true)
+      grey_units : (other : ℕ) → Among (grey_of c) other ⊎ ((head ≡ other) ⊎ ⊥) → (v : List Name) × Stands other v × ((list_any (has (n ∷ kept)) v && not (list_any (has scanned) v)) ≡ true)
       grey_units other (inl a) = let r = k.grey_units other a in let parts = and_true _ _ r.2 in (r.0, r.1, and_from _ _ (kept_still r.0 kept n parts.0) parts.1)
       grey_units other (inr (inl here)) = (u, subst (λ (x : ℕ). Stands x u) here t, and_from _ _ (kept_there u kept n e) (ap not not_scanned))
       grey_units other (inr (inr a)) = absurd a
 
-      all_grey : (other : ℕ) (v : List Name) → Stands other v → (list_any (has (n ∷ kept)) v && not (list_any (has scanned) v)) ≡ true → Among (grey ++ head ∷ []) other
+      all_grey : (other : ℕ) (v : List Name) → Stands other v → (list_any (has (n ∷ kept)) v && not (list_any (has scanned) v)) ≡ true → Among (grey_of c ++ head ∷ []) other
       all_grey other v q is = dite (ℕ_discrete head other)
-          (λ (here : head ≡ other). among_right grey (head ∷ []) other (inl here))
-          (λ (ne : head ≢ other). among_left grey (head ∷ []) other (k.all_grey other v q
+          (λ (here : head ≡ other). among_right (grey_of c) (head ∷ []) other (inl here))
+          (λ (ne : head ≢ other). among_left (grey_of c) (head ∷ []) other (k.all_grey other v q
           (let parts = and_true _ _ is in and_from _ _ (kept_same head other u v n kept t q e (λ x. ne (sym x)) ∙ parts.0) parts.1)))
-
--- ---- places of the worklist
-
--- a white head has room on it
-pub work_room : {z : Sizes} {o : Objects} {units : List (List Name)} {marked : List Bool} {work : List ℕ} {scanned pushed : ℕ} {kept fresh black : List Name} (head : ℕ)
-    → WorkShows z marked work scanned pushed → MarksShow o units marked (pushed_of work pushed) (grey_of work scanned pushed) kept fresh black
-    → head < item_count z → get_or marked head false ≡ false → pushed < item_count z
-work_room {z} {marked} {work} {pushed} head ws k inside white =
-    let t = few_below (item_count z) (head ∷ pushed_of work pushed) ((λ a. let black_bit = k.listed_marked head a in absurd (cc)), k.distinct) small in
-    let len : length (pushed_of work pushed) ≡ pushed = length-take-le pushed work (omega (arith, ws.few, ws.work_len)) in
-    omega arith
-  where
-    small : (i : ℕ) → (head ≡ i) ⊎ Among (pushed_of work pushed) i → i < item_count z
-    small i (inl e) = omega arith
-    small i (inr a) = let b = bit_below marked i (k.listed_marked i a) in omega (arith, ws.marked_len)
-
-pub work_push : {z : Sizes} {marked : List Bool} {work : List ℕ} {scanned pushed : ℕ} (head : ℕ) → WorkShows z marked work scanned pushed
-    → head < item_count z → pushed < item_count z → WorkShows z (set marked head true) (set work pushed head) scanned (pushed + 1)
-work_push {z} {marked} {work} {scanned} {pushed} head ws inside room = record {
-  marked_len = length-set marked head true ∙ ws.marked_len;
-  work_len = length-set work pushed head ∙ ws.work_len;
-  order = omega (arith, ws.order);
-  few = omega arith;
-  entries = λ k h. dite (ℕ_discrete k pushed)
-      (λ (e : k ≡ pushed). let t : get_or (set work pushed head) k 0 ≡ head =
-      ap (λ (j : ℕ). get_or (set work pushed head) j 0) e ∙ get_or-set_same work pushed head 0 (omega (arith, ws.work_len)) in
-      omega arith)
-      (λ (ne : k ≢ pushed). let t = get_or-set_other work pushed k head 0 ne in omega (arith, ws.entries k (omega arith)));
-}
-
-pub pushed_push : (work : List ℕ) (pushed head : ℕ) → pushed < length work → pushed_of (set work pushed head) (pushed + 1) ≡ pushed_of work pushed ++ head ∷ []
-pushed_push work pushed head h = take_more_set work pushed head h
-
-pub grey_push : (work : List ℕ) (scanned pushed head : ℕ) → pushed < length work → scanned ≤ pushed → grey_of (set work pushed head) scanned (pushed + 1) ≡ grey_of work scanned pushed ++ head ∷ []
-grey_push work scanned pushed head h order =
-    ap (λ (xs : List ℕ). drop scanned xs) (take_more_set work pushed head h)
-    ∙ drop-append-le scanned (take pushed work) (head ∷ []) (omega (arith, length-take-le pushed work (omega arith)))

@@ -499,7 +499,7 @@ module _ {z : Sizes} {p : Parts} {h : List Entry} (amid : IsAmid z p h) (idle : 
     rows = record { kinds = kinds'; cells = cells' };
     roots = roots';
     garbage = garbage_fewer lived k.garbage;
-    colours = record { work = k.work; idle = k.idle; marks = λ e. absurd (let a = idle in cc) };
+    colours = record { marked_len = k.marked_len; idle = k.idle; marks = λ e. absurd (let a = idle in cc) };
     stock = record { made = k.made; free = end.free };
     ends = record { removed = removed'; gone = gone'; room = k.room; gathers = λ e. absurd (let a = idle in cc); queue = λ e. queue'; none_asked = λ ne. absurd (ne idle) };
   }

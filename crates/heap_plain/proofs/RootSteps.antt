@@ -1,7 +1,7 @@
 -- Setting a root.
-use Rattle.std.proofs.Common.{◌≡◌, ◌≢◌, ℕ, ◌+◌, ◌<◌, ◌&&◌, not, refl, sym, subst, ap, ◌∙◌, inl, inr, arith, Bool, cond, true, false, List, [], ◌∷◌, ◌++◌, length, get_or, Option, Some, None}
+use Rattle.std.proofs.Common.{◌≡◌, ◌≢◌, ℕ, ◌<◌, ◌&&◌, not, refl, sym, subst, ap, ◌∙◌, inl, inr, arith, Bool, cond, true, false, List, [], ◌∷◌, ◌++◌, append_assoc, length, get_or, Option, Some, None}
 use Rattle.std.proofs.Math.ListN.{set}
-use Rattle.std.proofs.lemmas.List.{get_or-set_same}
+use Rattle.std.proofs.lemmas.List.{length-set, get_or-set_same}
 use Rattle.world_model.specs.Sizes.{Sizes, item_count}
 use Rattle.world_model.specs.NameLists.{same_name, has, set_name}
 use Rattle.world_model.specs.World.{unit_of}
@@ -18,16 +18,18 @@ use Rattle.world_model.proofs.Removals.{held_lives_holds}
 use Rattle.heap_plain.specs.Types.{Name, Ref, Lane, Phase, Idle, Marking, Gathering, Act, Entry}
 use Rattle.heap_plain.specs.Types.act
 use Rattle.heap_plain.specs.declared.life.Life.{Life}
-use Rattle.heap_plain.specs.Parts.{Parts, Colours, Holds, name_at, first_at, is_marking}
+use Rattle.heap_plain.specs.Painted.{Painted, greyed}
+use Rattle.heap_plain.specs.Parts.{Parts, Holds, name_at, first_at, is_marking}
+use Rattle.heap_plain.specs.Shading.{MarksIf, must_shade, head_of, shade_notes, rooting}
 use Rattle.heap_plain.specs.Units.{NamesShow, StandsAt, LivesAt}
 use Rattle.heap_plain.specs.Roots.{RootsShow, rooted_at}
-use Rattle.heap_plain.specs.Colouring.{MarksShow, Colouring, pushed_of, grey_of}
+use Rattle.heap_plain.specs.Colouring.{MarksShow, Colouring}
 use Rattle.heap_plain.specs.Plain.{Shows, IsPlain}
 use Rattle.heap_plain.proofs.Fillings.{Lists-set}
 use Rattle.heap_plain.proofs.Resting.{in_open, holds_next}
 use Rattle.heap_plain.proofs.Entries.{Done, does}
 use Rattle.heap_plain.proofs.Standing.{name_below, lives_at}
-use Rattle.heap_plain.proofs.MarkSteps.{mark_one, work_room, work_push, pushed_push, grey_push}
+use Rattle.heap_plain.proofs.MarkSteps.{mark_one, worklist_room}
 
 -- ---- when a store marks
 
@@ -36,19 +38,16 @@ marking_is Marking e = refl
 marking_is Idle e = absurd cc
 marking_is Gathering e = absurd cc
 
-pub must : (on b test : Bool) (phase : Phase) → test ≡ (on && (is_marking phase && not b)) → test ≡ true → (on ≡ true) × (phase ≡ Marking) × (b ≡ false)
-must on b test phase is e =
-    let parts = and_true on _ (sym is ∙ e) in
-    let more = and_true (is_marking phase) (not b) parts.1 in
-    (parts.0, marking_is phase more.0, flip b more.1)
+pub must : (phase : Phase) (b : Bool) → (is_marking phase && not b) ≡ true → (phase ≡ Marking) × (b ≡ false)
+must phase b e = let parts = and_true (is_marking phase) (not b) e in (marking_is phase parts.0, flip b parts.1)
   where
     flip : (c : Bool) → not c ≡ true → c ≡ false
     flip false h = refl
     flip true h = absurd cc
 
-pub need_not : (on b test : Bool) (phase : Phase) → test ≡ (on && (is_marking phase && not b)) → test ≡ false → on ≡ true → phase ≡ Marking → b ≡ true
-need_not on true test phase is e o m = refl
-need_not on false test phase is e o m = absurd (let both : (on && (is_marking phase && true)) ≡ true = rw (o, m) refl in cc)
+pub need_not : (phase : Phase) (b : Bool) → (is_marking phase && not b) ≡ false → phase ≡ Marking → b ≡ true
+need_not phase true e m = refl
+need_not phase false e m = absurd (let both : (is_marking phase && true) ≡ true = rw m refl in cc)
 
 -- ---- the root bits
 
@@ -74,10 +73,6 @@ roots_set {z} {names} {lives} {roots} {rooted} i n on ns here s = record {
 -- the frame of a lane that marked a unit
 abbrev pub marking_frame : Frame → Name → Frame
 marking_frame f of = record f { owed = Some of; shaded = true }
-
--- a white unit is marked, and put on the worklist
-abbrev pub shading : Parts → ℕ → Colours
-shading p head = record (p.colours) { marked = set p.marked head true; work = set p.work p.pushed head; pushed = p.pushed + 1 }
 
 module _ {z : Sizes} {p : Parts} {h : List Entry} {l : ℕ} {at : Ref} (was : IsPlain z p h) (frame : IsInFrame z h l) (held : Holds record { history = h; names = p.names } l at) where
   abbrev s : Shows z p (state_of h)
@@ -121,7 +116,7 @@ module _ {z : Sizes} {p : Parts} {h : List Entry} {l : ℕ} {at : Ref} (was : Is
   pub marked_is : p.phase ≡ Marking → get_or p.marked head false ≡ is_marked (state_of h).marks (unit_of (after h) n)
   marked_is e = (s.marks e).bits head u stands ∙ sym (ap (is_marked (state_of h).marks) unit_is)
 
-  pub roots_plain : (on old : Bool) → old ≡ get_or p.roots at.index false → (on ≡ true → p.phase ≡ Marking → get_or p.marked head false ≡ true)
+  roots_plain : (on old : Bool) → old ≡ get_or p.roots at.index false → (on ≡ true → p.phase ≡ Marking → get_or p.marked head false ≡ true)
       → Done z (record p { roots = set p.roots at.index on }) h (h ++ record { pass = Lane l; act = act.Root n on old } ∷ []) (Lane l) (act.Root n on old)
   roots_plain on old is shaded = does (Lane l) (act.Root n on old) (act.Root n on old ∷ []) was (inl refl, tt) (
     record {
@@ -133,20 +128,16 @@ module _ {z : Sizes} {p : Parts} {h : List Entry} {l : ℕ} {at : Ref} (was : Is
   )
       record { gate = s.gate; objects = s.objects; rows = s.rows; roots = roots_set at.index n on s.names here s.roots; garbage = s.garbage; colours = s.colours; stock = s.stock; ends = s.ends }
 
-  pub has_room : p.phase ≡ Marking → get_or p.marked head false ≡ false → p.pushed < item_count z
-  has_room e white = work_room head s.work (s.marks e) head_below white
+  pub has_room : p.phase ≡ Marking → get_or p.marked head false ≡ false → length p.listed < length p.marked
+  has_room e white = worklist_room head (s.marks e).worklist (omega (arith, head_below, s.marked_len)) white
 
   -- ---- the unit is marked first
 
   module _ (e : p.phase ≡ Marking) (white : get_or p.marked head false ≡ false) where
     inside : head < length p.marked
-    inside = omega (arith, head_below, s.work.marked_len)
+    inside = omega (arith, head_below, s.marked_len)
 
-    room : p.pushed < length p.work
-    room = omega (arith, has_room e white, s.work.work_len)
-
-    after_mark : MarksShow p.objects (after h).units (set p.marked head true) (pushed_of p.work p.pushed ++ head ∷ [])
-        (grey_of p.work p.scanned p.pushed ++ head ∷ []) (n ∷ (state_of h).marks.kept) (state_of h).marks.fresh (state_of h).marks.scanned
+    after_mark : MarksShow p.objects (after h).units (greyed p.colours head) (n ∷ (state_of h).marks.kept) (state_of h).marks.fresh (state_of h).marks.scanned
     after_mark = mark_one s.names s.units apart head u n stands member white inside ((barred z h was.legal).tricolour.scanned_kept (sym s.phase ∙ e) u stands.among) (s.marks e)
 
     pub may_keep : MayBy z (state_of h) (Lane l) (act.Kept n)
@@ -160,12 +151,8 @@ module _ {z : Sizes} {p : Parts} {h : List Entry} {l : ℕ} {at : Ref} (was : Is
     }
 
     -- what the vectors show of marks then
-    pub shaded : Colouring z p.phase p.objects (shading p head) (after h).units (n ∷ (state_of h).marks.kept) (state_of h).marks.fresh (state_of h).marks.scanned
-    shaded = record {
-      work = work_push head s.work head_below (has_room e white);
-      idle = λ ne. absurd (ne e);
-      marks = λ m. rw (grey_push p.work p.scanned p.pushed head room s.work.order, pushed_push p.work p.pushed head room) after_mark;
-    }
+    pub shaded : Colouring z p.phase p.objects (greyed p.colours head) (after h).units (n ∷ (state_of h).marks.kept) (state_of h).marks.fresh (state_of h).marks.scanned
+    shaded = record { marked_len = length-set p.marked head true ∙ s.marked_len; idle = λ ne. absurd (ne e); marks = λ m. after_mark }
 
     -- the unit is marked, and the lane may store it
     pub now_shaded : is_marked (record (state_of h).marks { kept = n ∷ (state_of h).marks.kept }) (unit_of (after h) n) ≡ true
@@ -184,8 +171,8 @@ module _ {z : Sizes} {p : Parts} {h : List Entry} {l : ℕ} {at : Ref} (was : Is
   abbrev both : Bool → List Entry
   both old = record { pass = Lane l; act = act.Kept n } ∷ record { pass = Lane l; act = act.Root n true old } ∷ []
 
-  pub roots_shaded : (old : Bool) → old ≡ get_or p.roots at.index false → p.phase ≡ Marking → get_or p.marked head false ≡ false
-      → Done z (record p { roots = set p.roots at.index true; colours = shading p head }) h (h ++ both old) (Lane l) (act.Root n true old)
+  roots_shaded : (old : Bool) → old ≡ get_or p.roots at.index false → p.phase ≡ Marking → get_or p.marked head false ≡ false
+      → Done z (record p { roots = set p.roots at.index true; colours = greyed p.colours head }) h (h ++ both old) (Lane l) (act.Root n true old)
   roots_shaded old is e white = does (Lane l) (act.Root n true old) (act.Kept n ∷ act.Root n true old ∷ []) was (inr (n, refl), tt) (
     may_keep e white,
     (
@@ -207,3 +194,18 @@ module _ {z : Sizes} {p : Parts} {h : List Entry} {l : ℕ} {at : Ref} (was : Is
         stock = s.stock;
         ends = s.ends;
       }
+
+  -- a root bit is set, where the barrier did its part
+  pub sets_root : (on old : Bool) → old ≡ get_or p.roots at.index false → {c : Painted} {mid : List Entry}
+      → MarksIf (must_shade p.phase p.firsts p.marked (rooting on at)) (head_of p.firsts (rooting on at)) (shade_notes l (rooting on at)) p.colours c h mid
+      → Done z (record p { roots = set p.roots at.index on; colours = c }) h (mid ++ record { pass = Lane l; act = act.Root n on old } ∷ []) (Lane l) (act.Root n on old)
+  sets_root false old is mi = let m = mi.stays refl in rw (m.0, m.1) (roots_plain false old is (λ e. absurd cc))
+  sets_root true old is {c} {mid} mi = go (is_marking p.phase && not (get_or p.marked head false)) refl
+    where
+      go : (b : Bool) → (is_marking p.phase && not (get_or p.marked head false)) ≡ b
+          → Done z (record p { roots = set p.roots at.index true; colours = c }) h (mid ++ record { pass = Lane l; act = act.Root n true old } ∷ []) (Lane l) (act.Root n true old)
+      go false e = let m = mi.stays e in rw (m.0, m.1) (roots_plain true old is (λ o. need_not p.phase (get_or p.marked head false) e))
+      go true e =
+          let m = mi.marks e in
+          let d = must p.phase (get_or p.marked head false) e in
+          rw (m.0, m.1, append_assoc h (record { pass = Lane l; act = act.Kept n } ∷ []) (record { pass = Lane l; act = act.Root n true old } ∷ [])) (roots_shaded old is d.0 d.1)

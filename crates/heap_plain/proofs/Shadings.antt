@@ -1,141 +1,125 @@
 -- Marking units in a row.
-use Rattle.std.proofs.Common.{◌≡◌, ◌≢◌, ℕ, ◌+◌, ◌*◌, ◌<◌, ◌≤◌, ◌⊎◌, refl, sym, subst, ap, ◌∙◌, inl, inr, arith, Bool, true, false, List, [], ◌∷◌, ◌++◌, append_assoc, append-nil, length, length-append, get_or, map, take, Option, Some, None}
+use Rattle.std.proofs.Common.{◌≡◌, ◌≢◌, ℕ, ◌+◌, ◌*◌, ◌<◌, ◌≤◌, ◌⊎◌, refl, sym, subst, ap, ◌∙◌, inl, inr, arith, Bool, true, false, List, [], ◌∷◌, ◌++◌, append_assoc, append-nil, length, length-append, get_or, map, Option, Some, None}
 use Rattle.std.proofs.Math.ListN.{set}
 use Rattle.std.proofs.Math.Logic.{dite}
 use Rattle.std.proofs.Math.Decide.{ℕ_discrete}
-use Rattle.std.proofs.lemmas.List.{length-set, get_or-set_same, get_or-set_other, take_more_set, map-append}
+use Rattle.std.proofs.lemmas.List.{length-set, get_or-set_same, map-append}
 use Rattle.world_model.specs.Calls.{by}
-use Rattle.world_model.proofs.ListFacts.{Among, among_append}
-use Rattle.heap_plain.specs.Types.{Name, Kind, Act, Marker, Entry}
+use Rattle.heap_plain.specs.Types.{Name, Kind, Act, Pass, Entry}
 use Rattle.heap_plain.specs.Types.act
 use Rattle.heap_plain.specs.Parts.{name_at, first_at, kind_at, target_at}
 use Rattle.heap_plain.specs.Listing.{chained}
-use Rattle.heap_plain.specs.Notes.{names_at, all_set}
-use Rattle.heap_plain.specs.Lists.{Distinct}
-use Rattle.heap_plain.specs.Shading.{InRow, InUnit, IsWorklist, CanShade, Shades}
-use Rattle.heap_plain.proofs.Noting.{names_at-append, by-append, one_name, length-all_set}
-use Rattle.heap_plain.proofs.Standing.{bit_below}
-use Rattle.heap_plain.proofs.MarkSteps.{distinct_snoc, few_below}
+use Rattle.heap_plain.specs.Notes.{names_at}
+use Rattle.heap_plain.specs.Painted.{Painted, IsNextGrey, IsWorklist, greyed, all_greyed}
+use Rattle.heap_plain.specs.Shading.{InRoots, InRow, InUnit, CanShade, Shades, root_bit}
+use Rattle.heap_plain.proofs.Noting.{names_at-append, by-append, one_name}
+use Rattle.heap_plain.proofs.MarkSteps.{set_still, worklist_push}
 
--- ---- bits
+-- ---- lists of units
 
-pub all_set-append : (bits : List Bool) (xs ys : List ℕ) → all_set bits (xs ++ ys) ≡ all_set (all_set bits xs) ys
-all_set-append bits [] ys = refl
-all_set-append bits (x ∷ xs) ys = all_set-append (set bits x true) xs ys
+pub all_greyed-append : (c : Painted) (xs ys : List ℕ) → all_greyed c (xs ++ ys) ≡ all_greyed (all_greyed c xs) ys
+all_greyed-append c [] ys = refl
+all_greyed-append c (x ∷ xs) ys = all_greyed-append (greyed c x) xs ys
 
-pub set_still : (bits : List Bool) (x i : ℕ) → get_or bits i false ≡ true → get_or (set bits x true) i false ≡ true
-set_still bits x i e = dite (ℕ_discrete i x)
-    (λ (here : i ≡ x). ap (λ (j : ℕ). get_or (set bits x true) j false) here ∙ get_or-set_same bits x true false (subst (λ (j : ℕ). j < length bits) here (bit_below bits i e)))
-    (λ (ne : i ≢ x). get_or-set_other bits x i true false ne ∙ e)
+all_still : (c : Painted) (xs : List ℕ) (i : ℕ) → get_or c.marked i false ≡ true → get_or (all_greyed c xs).marked i false ≡ true
+all_still c [] i e = e
+all_still c (x ∷ xs) i e = all_still (greyed c x) xs i (set_still c.marked x i e)
 
-pub all_still : (bits : List Bool) (xs : List ℕ) (i : ℕ) → get_or bits i false ≡ true → get_or (all_set bits xs) i false ≡ true
-all_still bits [] i e = e
-all_still bits (x ∷ xs) i e = all_still (set bits x true) xs i (set_still bits x i e)
+marked_len : (c : Painted) (xs : List ℕ) → length (all_greyed c xs).marked ≡ length c.marked
+marked_len c [] = refl
+marked_len c (x ∷ xs) = marked_len (greyed c x) xs ∙ length-set c.marked x true
 
--- ---- the worklist
-
--- a white unit has room on it
-pub worklist_room : {marked : List Bool} {work : List ℕ} {pushed : ℕ} (head : ℕ) → IsWorklist marked work pushed → head < length marked → get_or marked head false ≡ false → pushed < length work
-worklist_room {marked} {work} {pushed} head w inside white =
-    let t = few_below (length marked) (head ∷ take pushed work) ((λ a. let black_bit = w.set head a in absurd (cc)), w.distinct) small in
-    omega (arith, w.used, w.room)
-  where
-    small : (i : ℕ) → (head ≡ i) ⊎ Among (take pushed work) i → i < length marked
-    small i (inl e) = omega arith
-    small i (inr a) = bit_below marked i (w.set i a)
-
-worklist_push : {marked : List Bool} {work : List ℕ} {pushed : ℕ} (head : ℕ) → IsWorklist marked work pushed → head < length marked
-    → get_or marked head false ≡ false → IsWorklist (set marked head true) (set work pushed head) (pushed + 1)
-worklist_push {marked} {work} {pushed} head w inside white =
-    let listed = take_more_set work pushed head (worklist_room head w inside white) in
-    record {
-      distinct = subst (λ (xs : List ℕ). Distinct xs) (sym listed) (distinct_snoc (take pushed work) head w.distinct (λ a. let black_bit = w.set head a in absurd (cc)));
-      set = λ i a. bit i (among_append (take pushed work) (head ∷ []) i (subst (λ (xs : List ℕ). Among xs i) listed a));
-      room = length-set marked head true ∙ w.room ∙ sym (length-set work pushed head);
-      used = ap (λ (xs : List ℕ). length xs) listed ∙ length-append (take pushed work) (head ∷ []) ∙ ap (λ (k : ℕ). k + 1) w.used;
-    }
-  where
-    bit : (i : ℕ) → Among (take pushed work) i ⊎ ((head ≡ i) ⊎ ⊥) → get_or (set marked head true) i false ≡ true
-    bit i (inl a) = set_still marked head i (w.set i a)
-    bit i (inr (inl e)) = ap (λ (j : ℕ). get_or (set marked head true) j false) (sym e) ∙ get_or-set_same marked head true false inside
-    bit i (inr (inr a)) = absurd a
-
--- ---- units in a row
+scanned_is : (c : Painted) (xs : List ℕ) → (all_greyed c xs).scanned ≡ c.scanned
+scanned_is c [] = refl
+scanned_is c (x ∷ xs) = scanned_is (greyed c x) xs
 
 can_shade : (firsts : List ℕ) {At All : ℕ → Type 0} → ((t : ℕ) → At t → All t) → (bits : List Bool) (xs : List ℕ) → CanShade firsts At bits xs → CanShade firsts All bits xs
 can_shade firsts more bits [] h = tt
 can_shade firsts more bits (x ∷ xs) h = ((h.0.0, more h.0.0 h.0.1, h.0.2), h.1, can_shade firsts more (set bits x true) xs h.2)
 
-can_join : (firsts : List ℕ) (At : ℕ → Type 0) (bits : List Bool) (xs ys : List ℕ) → CanShade firsts At bits xs → CanShade firsts At (all_set bits xs) ys → CanShade firsts At bits (xs ++ ys)
-can_join firsts At bits [] ys a b = b
-can_join firsts At bits (x ∷ xs) ys a b = (a.0, a.1, can_join firsts At (set bits x true) xs ys a.2 b)
+can_join : (firsts : List ℕ) (At : ℕ → Type 0) (c : Painted) (xs ys : List ℕ) → CanShade firsts At c.marked xs → CanShade firsts At (all_greyed c xs).marked ys
+    → CanShade firsts At c.marked (xs ++ ys)
+can_join firsts At c [] ys a b = b
+can_join firsts At c (x ∷ xs) ys a b = (a.0, a.1, can_join firsts At (greyed c x) xs ys a.2 b)
 
-module _ {names : List (Option Name)} {firsts : List ℕ} {marker : ℕ} where
+-- ---- units in a row
+
+module _ {names : List (Option Name)} {firsts : List ℕ} {pass : Pass} where
   -- where all units are marked, nothing changes
-  pub shades_stay : {At : ℕ → Type 0} {marked : List Bool} {work : List ℕ} {pushed : ℕ} {diary : List Entry} → IsWorklist marked work pushed
-      → ((t : ℕ) → At t → get_or marked (first_at firsts t) false ≡ true)
-      → Shades names firsts At marker marked marked work work pushed pushed diary diary
-  shades_stay {marked = marked} {work} {pushed} {diary} fits each = record {
-    heads = [];
-    listed = sym (append-nil (take pushed work));
-    bits = refl;
-    entries = sym (append-nil diary);
-    can = tt;
-    each = each;
-    fits = fits;
-  }
+  pub shades_stay : {At : ℕ → Type 0} {c : Painted} {diary : List Entry} → IsWorklist c → ((t : ℕ) → At t → get_or c.marked (first_at firsts t) false ≡ true)
+      → Shades names firsts At pass c c diary diary
+  shades_stay {diary = diary} fits each = record { heads = []; colours = refl; entries = sym (append-nil diary); can = tt; each = each; fits = fits }
 
   -- one white unit
-  pub shades_one : {At : ℕ → Type 0} {marked : List Bool} {work : List ℕ} {pushed : ℕ} {diary : List Entry} (t head : ℕ) (n : Name) → At t
-      → ((r : ℕ) → At r → r ≡ t) → first_at firsts t ≡ head → head < length marked → get_or marked head false ≡ false → name_at names head ≡ Some n
-      → IsWorklist marked work pushed
-      → Shades names firsts At marker marked (set marked head true) work (set work pushed head) pushed (pushed + 1) diary
-      (diary ++ record { pass = Marker marker; act = act.Kept n } ∷ [])
-  shades_one {marked = marked} {work} {pushed} {diary} t head n there alone is inside white named fits = record {
-    heads = head ∷ [];
-    listed = take_more_set work pushed head (worklist_room head fits inside white);
-    bits = refl;
-    entries = ap (λ (ns : List Name). diary ++ by (Marker marker) (map act.Kept ns)) (sym (one_name names head n named));
-    can = ((t, there, is), white, tt);
-    each = λ r a. ap (λ (x : ℕ). get_or (set marked head true) x false) (ap (first_at firsts) (alone r a) ∙ is) ∙ get_or-set_same marked head true false inside;
-    fits = worklist_push head fits inside white;
+  pub shades_one : {At : ℕ → Type 0} {c : Painted} {diary : List Entry} (t : ℕ) (n : Name) → At t → ((r : ℕ) → At r → r ≡ t) → first_at firsts t < length c.marked
+      → get_or c.marked (first_at firsts t) false ≡ false → name_at names (first_at firsts t) ≡ Some n → IsWorklist c
+      → Shades names firsts At pass c (greyed c (first_at firsts t)) diary (diary ++ record { pass = pass; act = act.Kept n } ∷ [])
+  shades_one {c = c} {diary} t n there alone inside white named fits = record {
+    heads = first_at firsts t ∷ [];
+    colours = refl;
+    entries = ap (λ (ns : List Name). diary ++ by pass (map act.Kept ns)) (sym (one_name names (first_at firsts t) n named));
+    can = ((t, there, refl), white, tt);
+    each = λ r a. ap (λ (x : ℕ). get_or (set c.marked (first_at firsts t) true) (first_at firsts x) false) (alone r a) ∙ get_or-set_same c.marked (first_at firsts t) true false inside;
+    fits = worklist_push (first_at firsts t) fits inside white;
   }
 
   -- first those of some indexes, and then those of the others
-  pub shades_join : {First Second All : ℕ → Type 0} {marked mid marked' : List Bool} {work between work' : List ℕ} {pushed used pushed' : ℕ} {old diary new : List Entry}
+  pub shades_join : {First Second All : ℕ → Type 0} {c mid c' : Painted} {old diary new : List Entry}
       → ((t : ℕ) → First t → All t) → ((t : ℕ) → Second t → All t) → ((t : ℕ) → All t → First t ⊎ Second t)
-      → Shades names firsts First marker marked mid work between pushed used old diary
-      → Shades names firsts Second marker mid marked' between work' used pushed' diary new
-      → Shades names firsts All marker marked marked' work work' pushed pushed' old new
-  shades_join {First = First} {Second = Second} {All = All} {marked} {mid} {marked'} {work} {between} {work'} {pushed} {used} {pushed'} {old} {diary} {new} left right either a b = record {
+      → Shades names firsts First pass c mid old diary → Shades names firsts Second pass mid c' diary new → Shades names firsts All pass c c' old new
+  shades_join {First = First} {Second = Second} {All = All} {c} {mid} {c'} {old} {diary} {new} left right either a b = record {
     heads = a.heads ++ b.heads;
-    listed = b.listed ∙ ap (λ (xs : List ℕ). xs ++ b.heads) a.listed ∙ append_assoc (take pushed work) a.heads b.heads;
-    bits = b.bits ∙ ap (λ (xs : List Bool). all_set xs b.heads) a.bits ∙ sym (all_set-append marked a.heads b.heads);
-    entries = b.entries ∙ ap (λ (es : List Entry). es ++ by (Marker marker) (map act.Kept (names_at names b.heads))) a.entries
-        ∙ append_assoc old (by (Marker marker) (map act.Kept (names_at names a.heads))) (by (Marker marker) (map act.Kept (names_at names b.heads)))
+    colours = b.colours ∙ ap (λ (x : Painted). all_greyed x b.heads) a.colours ∙ sym (all_greyed-append c a.heads b.heads);
+    entries = b.entries ∙ ap (λ (es : List Entry). es ++ by pass (map act.Kept (names_at names b.heads))) a.entries
+        ∙ append_assoc old (by pass (map act.Kept (names_at names a.heads))) (by pass (map act.Kept (names_at names b.heads)))
         ∙ ap (λ (es : List Entry). old ++ es) (sym notes);
     can =
-        can_join firsts All marked a.heads b.heads (can_shade firsts left marked a.heads a.can)
-        (subst (λ (xs : List Bool). CanShade firsts All xs b.heads) a.bits (can_shade firsts right mid b.heads b.can));
+        can_join firsts All c a.heads b.heads (can_shade firsts left c.marked a.heads a.can)
+        (subst (λ (x : Painted). CanShade firsts All x.marked b.heads) a.colours (can_shade firsts right mid.marked b.heads b.can));
     each = λ t h. each t (either t h);
     fits = b.fits;
   }
     where
-      notes : by (Marker marker) (map act.Kept (names_at names (a.heads ++ b.heads)))
-          ≡ by (Marker marker) (map act.Kept (names_at names a.heads)) ++ by (Marker marker) (map act.Kept (names_at names b.heads))
+      notes : by pass (map act.Kept (names_at names (a.heads ++ b.heads))) ≡ by pass (map act.Kept (names_at names a.heads)) ++ by pass (map act.Kept (names_at names b.heads))
       notes =
-          ap (λ (ns : List Name). by (Marker marker) (map act.Kept ns)) (names_at-append names a.heads b.heads)
-          ∙ ap (λ (acts : List Act). by (Marker marker) acts) (map-append act.Kept (names_at names a.heads) (names_at names b.heads))
-          ∙ by-append (Marker marker) (map act.Kept (names_at names a.heads)) (map act.Kept (names_at names b.heads))
+          ap (λ (ns : List Name). by pass (map act.Kept ns)) (names_at-append names a.heads b.heads)
+          ∙ ap (λ (acts : List Act). by pass acts) (map-append act.Kept (names_at names a.heads) (names_at names b.heads))
+          ∙ by-append pass (map act.Kept (names_at names a.heads)) (map act.Kept (names_at names b.heads))
 
-      each : (t : ℕ) → First t ⊎ Second t → get_or marked' (first_at firsts t) false ≡ true
-      each t (inl h) = ap (λ (xs : List Bool). get_or xs (first_at firsts t) false) b.bits ∙ all_still mid b.heads (first_at firsts t) (a.each t h)
+      each : (t : ℕ) → First t ⊎ Second t → get_or c'.marked (first_at firsts t) false ≡ true
+      each t (inl h) = ap (λ (x : Painted). get_or x.marked (first_at firsts t) false) b.colours ∙ all_still mid b.heads (first_at firsts t) (a.each t h)
       each t (inr h) = b.each t h
 
-pub shades_len : {names : List (Option Name)} {firsts : List ℕ} {At : ℕ → Type 0} {marker : ℕ} {marked marked' : List Bool} {work work' : List ℕ}
-    {pushed pushed' : ℕ} {old new : List Entry} → Shades names firsts At marker marked marked' work work' pushed pushed' old new
-    → length marked' ≡ length marked
-shades_len {marked = marked} k = ap (λ (xs : List Bool). length xs) k.bits ∙ length-all_set marked k.heads
+pub shades_len : {names : List (Option Name)} {firsts : List ℕ} {At : ℕ → Type 0} {pass : Pass} {c c' : Painted} {old new : List Entry}
+    → Shades names firsts At pass c c' old new → length c'.marked ≡ length c.marked
+shades_len {c = c} k = ap (λ (x : Painted). length x.marked) k.colours ∙ marked_len c k.heads
+
+pub black_is : {names : List (Option Name)} {firsts : List ℕ} {At : ℕ → Type 0} {pass : Pass} {c c' : Painted} {old new : List Entry}
+    → Shades names firsts At pass c c' old new → c'.scanned ≡ c.scanned
+black_is {c = c} k = ap (λ (x : Painted). x.scanned) k.colours ∙ scanned_is c k.heads
+
+-- what was grey is listed still
+pub black_few : {names : List (Option Name)} {firsts : List ℕ} {At : ℕ → Type 0} {pass : Pass} {c c' : Painted} {old new : List Entry} {head : ℕ}
+    → IsNextGrey c head → Shades names firsts At pass c c' old new → c'.scanned < length c'.listed
+black_few {c = c} {c'} first k = let e = ap (λ (x : Painted). length x.listed) k.colours in omega (arith, e, black_is k, more c k.heads, first.some)
+  where
+    more : (c : Painted) (xs : List ℕ) → length c.listed ≤ length (all_greyed c xs).listed
+    more c [] = omega arith
+    more c (x ∷ xs) = omega (arith, more (greyed c x) xs, length-append c.listed (x ∷ []))
+
+-- ---- root bits
+
+pub bit_root : (roots : List Bool) (i t : ℕ) → root_bit roots i ≡ Some t → (t ≡ i) × (get_or roots i false ≡ true)
+bit_root roots i t e = go (get_or roots i false) refl e
+  where
+    go : (b : Bool) → get_or roots i false ≡ b → root_bit roots i ≡ Some t → (t ≡ i) × (get_or roots i false ≡ true)
+    go true is e = let at : Some i ≡ Some t = rw is at e in let same : i ≡ t = cc in (sym same, is)
+    go false is e = absurd (let none : None ≡ Some t = rw is at e in cc)
+
+pub roots_more : (roots : List Bool) (k t : ℕ) → InRoots roots (k + 1) t → InRoots roots k t ⊎ (root_bit roots k ≡ Some t)
+roots_more roots k t (below, is) = dite (ℕ_discrete t k)
+    (λ (e : t ≡ k). let bit : get_or roots k false ≡ true = ap (λ (x : ℕ). get_or roots x false) (sym e) ∙ is in inr (rw bit (ap (λ (x : ℕ). Some x) (sym e))))
+    (λ (ne : t ≢ k). inl (omega arith, is))
 
 -- ---- the cells of a row, and of a unit
 

@@ -4,6 +4,7 @@ use Rattle.std.specs.List.{list_any, sum_by}
 use Rattle.std.proofs.Math.Logic.{dite}
 use Rattle.std.proofs.Math.Decide.{ℕ_discrete}
 use Rattle.std.proofs.lemmas.Bool.{and_from}
+use Rattle.std.proofs.lemmas.List.{drop_more}
 use Rattle.std.proofs.lemmas.List.Sums.{sum_by-append}
 use Rattle.world_model.specs.Sizes.{Sizes}
 use Rattle.world_model.specs.NameLists.{same_name, same_pass, has}
@@ -17,10 +18,11 @@ use Rattle.heap_plain.specs.Parts.{Objects, name_at, next_at}
 use Rattle.heap_plain.specs.Listing.{chained}
 use Rattle.heap_plain.specs.Lists.{Distinct}
 use Rattle.heap_plain.specs.Units.{NamesShow, UnitsShow, StandsAt, AreLinked}
+use Rattle.heap_plain.specs.Painted.{Painted, IsNextGrey, grey_of, blackened}
 use Rattle.heap_plain.specs.Colouring.{MarksShow}
 use Rattle.heap_plain.proofs.WorldFacts.{any_same}
 use Rattle.heap_plain.proofs.Standing.{one_unit}
-use Rattle.heap_plain.proofs.MarkSteps.{not_in}
+use Rattle.heap_plain.proofs.MarkSteps.{not_in, distinct_drop}
 use Rattle.heap_plain.proofs.Listings.{chained_next}
 
 -- ---- one unit is scanned
@@ -30,20 +32,26 @@ module _ {z : Sizes} {o : Objects} {kinds : ℕ → List Kind} {units : List (Li
       → has u n ≡ true → other ≢ head → list_any (has scanned) v ≡ list_any (has (n ∷ scanned)) v
   scanned_same head other u v n scanned t q e ne = any_same (has scanned) (has (n ∷ scanned)) v (λ m a. let f = not_in ns us apart head other u v n m t q e ne a in rw f refl)
 
-  pub scan_one : {marked : List Bool} {listed grey : List ℕ} {kept fresh scanned : List Name} (head : ℕ) (u : List Name) (n : Name) → StandsAt o units head u → has u n ≡ true → Distinct (head ∷ grey)
-      → MarksShow o units marked listed (head ∷ grey) kept fresh scanned → MarksShow o units marked listed grey kept fresh (n ∷ scanned)
-  scan_one {marked} {listed} {grey} {kept} {fresh} {scanned} head u n t e once k = record {
+  pub scan_one : {c : Painted} {kept fresh scanned : List Name} (head : ℕ) (u : List Name) (n : Name) → StandsAt o units head u → has u n ≡ true
+      → IsNextGrey c head → MarksShow o units c kept fresh scanned → MarksShow o units (blackened c) kept fresh (n ∷ scanned)
+  scan_one {c} {kept} {fresh} {scanned} head u n t e first k = record {
     bits = k.bits;
-    listed_marked = k.listed_marked;
-    distinct = k.distinct;
+    worklist = record { distinct = k.worklist.distinct; set = k.worklist.set };
+    order = omega (arith, first.some);
     grey_units = λ other a.
-        let r = k.grey_units other (inr a) in
-        let ne : other ≢ head = λ same. once.0 (subst (λ (x : ℕ). Among grey x) same a) in
+        let r = k.grey_units other (subst (λ (xs : List ℕ). Among xs other) (sym grey_is) (inr a)) in
+        let ne : other ≢ head = λ same. once.0 (subst (λ (x : ℕ). Among (grey_of (blackened c)) x) same a) in
         let parts = and_true _ _ r.2 in
         (r.0, r.1, and_from _ _ parts.0 (ap not (sym (scanned_same head other u r.0 n scanned t r.1 e ne)) ∙ parts.1));
     all_grey = λ other v q is. all_grey other v q is (dite (ℕ_discrete other head) (λ (same : other ≡ head). inl same) (λ (ne : other ≢ head). inr ne));
   }
     where
+      grey_is : grey_of c ≡ head ∷ grey_of (blackened c)
+      grey_is = drop_more c.listed c.scanned 0 first.some ∙ ap (λ (x : ℕ). x ∷ grey_of (blackened c)) (sym first.first)
+
+      once : Distinct (head ∷ grey_of (blackened c))
+      once = subst (λ (xs : List ℕ). Distinct xs) grey_is (distinct_drop c.scanned c.listed k.worklist.distinct)
+
       wrong : (b : Bool) → b ≡ true → not b ≡ true → ⊥
       wrong true e f = cc
       wrong false e f = cc
@@ -51,15 +59,17 @@ module _ {z : Sizes} {o : Objects} {kinds : ℕ → List Kind} {units : List (Li
       scanned_now : list_any (has (n ∷ scanned)) u ≡ true
       scanned_now = among_test (has (n ∷ scanned)) u n (has_among u n e) (let r = same_name_refl n in rw r refl)
 
-      all_grey : (other : ℕ) (v : List Name) → StandsAt o units other v → (list_any (has kept) v && not (list_any (has (n ∷ scanned)) v)) ≡ true → (other ≡ head) ⊎ (other ≢ head) → Among grey other
+      all_grey : (other : ℕ) (v : List Name) → StandsAt o units other v → (list_any (has kept) v && not (list_any (has (n ∷ scanned)) v)) ≡ true
+          → (other ≡ head) ⊎ (other ≢ head) → Among (grey_of (blackened c)) other
       all_grey other v q is (inl same) =
           let unit : u ≡ v = one_unit apart us head u v t (subst (λ (x : ℕ). StandsAt o units x v) same q) in
           absurd (wrong (list_any (has (n ∷ scanned)) u) scanned_now (ap (λ (x : List Name). not (list_any (has (n ∷ scanned)) x)) unit ∙ (and_true (list_any (has kept) v) _ is).1))
       all_grey other v q is (inr ne) =
           let parts = and_true _ _ is in
-          rest (k.all_grey other v q (and_from _ _ parts.0 (ap not (scanned_same head other u v n scanned t q e ne) ∙ parts.1)))
+          rest (subst (λ (xs : List ℕ). Among xs other) grey_is
+          (k.all_grey other v q (and_from _ _ parts.0 (ap not (scanned_same head other u v n scanned t q e ne) ∙ parts.1))))
         where
-          rest : (head ≡ other) ⊎ Among grey other → Among grey other
+          rest : (head ≡ other) ⊎ Among (grey_of (blackened c)) other → Among (grey_of (blackened c)) other
           rest (inl same) = absurd (ne (sym same))
           rest (inr a) = a
 

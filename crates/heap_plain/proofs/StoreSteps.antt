@@ -15,8 +15,9 @@ use Rattle.world_model.proofs.Giving.{given_is_held_holds}
 use Rattle.heap_plain.specs.Types.{Name, Ref, Kind, Lane, Marking, Act, Entry}
 use Rattle.heap_plain.specs.Types.act
 use Rattle.heap_plain.specs.declared.life.Life.{Life}
-use Rattle.heap_plain.specs.Parts.{Parts, Rows, Colours, Holds, name_at, first_at, kind_at, target_at}
-use Rattle.heap_plain.specs.Shading.{MarksIf, must_shade, head_of, shade_notes}
+use Rattle.heap_plain.specs.Painted.{Painted, greyed}
+use Rattle.heap_plain.specs.Parts.{Parts, Rows, Holds, name_at, first_at, kind_at, target_at}
+use Rattle.heap_plain.specs.Shading.{MarksIf, must_shade, head_of, shade_notes, rooting}
 use Rattle.heap_plain.specs.Storing.{Refers}
 use Rattle.heap_plain.specs.Units.{LivesAt}
 use Rattle.heap_plain.specs.Cells.{Aims, CellsShow}
@@ -179,18 +180,20 @@ module _ {z : Sizes} {p : Parts} {h : List Entry} {l : ℕ} {at : Ref} (was : Is
   -- where nothing has to be marked, it is
   stored_shaded : (to : Option Ref) → Stored to → must_shade p.phase p.firsts p.marked to ≡ false → IsShaded (state_of h) (name_of to)
   stored_shaded None k e m = tt
-  stored_shaded (Some r) k e m = sym (root.marked_is was frame k (s.phase ∙ m)) ∙ root.need_not true (get_or p.marked (first_at p.firsts r.index) false) _ p.phase refl e refl (s.phase ∙ m)
+  stored_shaded (Some r) k e m = sym (root.marked_is was frame k (s.phase ∙ m)) ∙ root.need_not p.phase (get_or p.marked (first_at p.firsts r.index) false) e (s.phase ∙ m)
 
   -- what a store needs of the one to which it stores
   pub stored_index : (to : Option Ref) → Stored to → IfSome to (λ r. r.index < length p.firsts)
   stored_index None k = tt
   stored_index (Some r) k = omega (arith, root.index_below was frame k, s.units.firsts_len)
 
-  pub stored_room : (to : Option Ref) → Stored to → must_shade p.phase p.firsts p.marked to ≡ true → p.pushed < length p.work
+  pub stored_room : (to : Option Ref) → Stored to → must_shade p.phase p.firsts p.marked to ≡ true → length p.listed < length p.marked
   stored_room None k e = absurd cc
-  stored_room (Some r) k e =
-      let d = root.must true (get_or p.marked (first_at p.firsts r.index) false) _ p.phase refl e in
-      omega (arith, root.has_room was frame k d.1 d.2, s.work.work_len)
+  stored_room (Some r) k e = let d = root.must p.phase (get_or p.marked (first_at p.firsts r.index) false) e in root.has_room was frame k d.0 d.1
+
+  pub stored_root : (on : Bool) → Stored (rooting on at)
+  stored_root true = held
+  stored_root false = tt
 
   module _ (slot : ℕ) (is_ref : slot < refs_of (after h) n) (old : Option Ref) (refers : Refers p.names (target_at z.slots p.targets at.index slot) old) where
     abbrev place : ℕ
@@ -215,7 +218,7 @@ module _ {z : Sizes} {p : Parts} {h : List Entry} {l : ℕ} {at : Ref} (was : Is
     rows_written to k = cells_write at.index n slot s.names here in_row s.cells (index_of to) (name_of to) (omega (arith, refs_are)) (stored_aims to k) (stored_below to k)
 
     -- what a store does
-    abbrev Written : Option Ref → Colours → List Entry → Type 0
+    abbrev Written : Option Ref → Painted → List Entry → Type 0
     Written to c new = Gives (record p { colours = c; rows = with_target p place (index_of to) }) new (write_act to) old
 
     -- nothing is marked
@@ -243,14 +246,14 @@ module _ {z : Sizes} {p : Parts} {h : List Entry} {l : ℕ} {at : Ref} (was : Is
 
     -- the unit of the target is marked first
     shades : (r : Ref) (k : Holds record { history = h; names = p.names } l r) (e : p.phase ≡ Marking) → get_or p.marked (first_at p.firsts r.index) false ≡ false
-        → Written (Some r) (root.shading p (first_at p.firsts r.index)) ((h ++ record { pass = Lane l; act = act.Kept r.name } ∷ []) ++ write_entry (Some r) ∷ [])
+        → Written (Some r) (greyed p.colours (first_at p.firsts r.index)) ((h ++ record { pass = Lane l; act = act.Kept r.name } ∷ []) ++ write_entry (Some r) ∷ [])
     shades r k e white =
         let note : Entry = record { pass = Lane l; act = act.Kept r.name } in
         let whole : h ++ note ∷ write_entry (Some r) ∷ [] ≡ (h ++ note ∷ []) ++ write_entry (Some r) ∷ [] = sym (append_assoc h (note ∷ []) (write_entry (Some r) ∷ [])) in
         let done =
         subst
         (λ (es : List Entry).
-        Done z (record p { colours = root.shading p (first_at p.firsts r.index); rows = with_target p place (Some r.index) }) h es (Lane l)
+        Done z (record p { colours = greyed p.colours (first_at p.firsts r.index); rows = with_target p place (Some r.index) }) h es (Lane l)
         (write_act (Some r))) whole
         (does (Lane l) (write_act (Some r)) (act.Kept r.name ∷ write_act (Some r) ∷ []) was (inr (r.name, refl), tt) (
           root.may_keep was frame k e white,
@@ -280,17 +283,11 @@ module _ {z : Sizes} {p : Parts} {h : List Entry} {l : ℕ} {at : Ref} (was : Is
         }) in
         record { done = done; given = given_held (target_at z.slots p.targets at.index slot) old (h ++ note ∷ []) (write_act (Some r)) done.plain.legal (gives_it old) refers }
 
-    writes_by : (to : Option Ref) → Stored to → (marked : List Bool) (work : List ℕ) (pushed : ℕ) (mid : List Entry) (b : Bool) → must_shade p.phase p.firsts p.marked to ≡ b
-        → MarksIf (must_shade p.phase p.firsts p.marked to) (head_of p.firsts to) (shade_notes l to) p.marked marked p.work work p.pushed pushed h mid
-        → Written to (record { marked = marked; work = work; scanned = p.scanned; pushed = pushed }) (mid ++ write_entry to ∷ [])
-    writes_by to k marked work pushed mid false e mi = let m = mi.stays e in rw (m.0, m.1, m.2, m.3) (stays to k e)
-    writes_by None k marked work pushed mid true e mi = absurd cc
-    writes_by (Some r) k marked work pushed mid true e mi =
-        let m = mi.marks e in
-        let d = root.must true (get_or p.marked (first_at p.firsts r.index) false) _ p.phase refl e in
-        rw (m.0, m.1, m.2, m.3) (shades r k d.1 d.2)
-
-    pub writes : (to : Option Ref) → Stored to → {marked : List Bool} {work : List ℕ} {pushed : ℕ} {mid : List Entry}
-        → MarksIf (must_shade p.phase p.firsts p.marked to) (head_of p.firsts to) (shade_notes l to) p.marked marked p.work work p.pushed pushed h mid
-        → Written to (record { marked = marked; work = work; scanned = p.scanned; pushed = pushed }) (mid ++ write_entry to ∷ [])
-    writes to k {marked} {work} {pushed} {mid} mi = writes_by to k marked work pushed mid (must_shade p.phase p.firsts p.marked to) refl mi
+    pub writes : (to : Option Ref) → Stored to → {c : Painted} {mid : List Entry}
+        → MarksIf (must_shade p.phase p.firsts p.marked to) (head_of p.firsts to) (shade_notes l to) p.colours c h mid → Written to c (mid ++ write_entry to ∷ [])
+    writes None k mi = let m = mi.stays refl in rw (m.0, m.1) (stays None k refl)
+    writes (Some r) k {c} {mid} mi = go (must_shade p.phase p.firsts p.marked (Some r)) refl
+      where
+        go : (b : Bool) → must_shade p.phase p.firsts p.marked (Some r) ≡ b → Written (Some r) c (mid ++ write_entry (Some r) ∷ [])
+        go false e = let m = mi.stays e in rw (m.0, m.1) (stays (Some r) k e)
+        go true e = let m = mi.marks e in let d = root.must p.phase (get_or p.marked (first_at p.firsts r.index) false) e in rw (m.0, m.1) (shades r k d.0 d.1)

@@ -370,7 +370,7 @@ module _ {z : Sizes} {p : Parts} {h : List Entry} {budget looked count : ℕ} {o
     rows = s.rows;
     roots = s.roots;
     garbage = s.garbage;
-    colours = record { work = s.work; idle = λ ne. s.idle not_marking; marks = λ e. absurd cc };
+    colours = record { marked_len = s.marked_len; idle = λ ne. s.idle not_marking; marks = λ e. absurd cc };
     stock = s.stock;
     ends = record {
       removed = record {

@@ -2,8 +2,9 @@
 pub mod Types
 -- lists without repetition
 pub mod Lists
--- the queue of destruction, the vectors of a plain heap, and what callers see of them
+-- the queue of destruction, the marks, the vectors of a plain heap, and what callers see of them
 pub mod Queue
+pub mod Painted
 pub mod Parts
 -- what the functions over the vectors do
 pub mod Filling

@@ -13,8 +13,8 @@ use Rattle.heap_plain.specs.Listing.{chained}
 use Rattle.heap_plain.specs.Units.{StandsAt}
 use Rattle.heap_plain.specs.Plain.{Shows, IsAtRest}
 
--- Members have left the unit of an object since the history was `old`, and so many are left, from the head on. The worklist begins with their indexes.
-pub record IsParting (z : Sizes) (old : Shown) (lane : ℕ) (at : Name) (head count left : ℕ) (p : Parts) (history : List Entry) : Type 0 where
+-- Members have left the unit of an object since the history was `old`, and so many are left, from the head on. A list begins with their indexes.
+pub record IsParting (z : Sizes) (old : Shown) (lane : ℕ) (at : Name) (head count left : ℕ) (members : List ℕ) (p : Parts) (history : List Entry) : Type 0 where
   pub rest : IsAtRest (state_of old.history)
   pub of : List Name
   pub grown : history ≡ old.history ++ by (Lane lane) (map act.Loose of)
@@ -25,8 +25,8 @@ pub record IsParting (z : Sizes) (old : Shown) (lane : ℕ) (at : Name) (head co
   pub midway : IsMidway z (state_of history) lane (unit_of (after old.history) at) front
   pub counted : count ≡ length (unit_of (after old.history) at)
   pub size : left ≡ length front
-  pub room : left ≤ length p.work
-  pub listed : (k : ℕ) → k < left → get_or p.work k 0 ≡ chained p.next head k
+  pub room : left ≤ length members
+  pub listed : (k : ℕ) → k < left → get_or members k 0 ≡ chained p.next head k
   pub member : has (unit_of (after old.history) at) at ≡ true
   pub own : at.lane ≡ lane
   pub unmarked : p.phase ≢ Marking

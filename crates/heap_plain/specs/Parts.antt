@@ -8,6 +8,7 @@ use Rattle.world_model.specs.World.{Stage}
 use Rattle.world_model.specs.World as world
 use Rattle.world_model.specs.State as model
 use Rattle.heap_plain.specs.Queue.{Queued}
+use Rattle.heap_plain.specs.Painted.{Painted}
 use Rattle.heap_plain.specs.declared.life.Life.{Life}
 use Rattle.heap_plain.specs.declared.life.Life.TheVariants.{Free, Removed, Begun, Finished}
 
@@ -58,13 +59,6 @@ pub record Rows : Type 0 where
   pub targets : List (Option ℕ)
   pub plains : List ℕ
 
--- the marks of the running collection, and its worklist
-pub record Colours : Type 0 where
-  pub marked : List Bool
-  pub work : List ℕ
-  pub scanned : ℕ
-  pub pushed : ℕ
-
 -- what each lane has left: the stacks of free indexes, how many stand on each, and how many objects were made
 pub record Stock : Type 0 where
   pub free : List ℕ
@@ -90,7 +84,7 @@ pub record Parts : Type 0 where
   pub open rows use *
   pub roots : List Bool
   pub garbage : List Bool
-  pub colours : Colours
+  pub colours : Painted
   pub open colours use *
   pub stock : Stock
   pub open stock use *

@@ -1,24 +1,21 @@
--- Marking the units to which references lead: while a unit is scanned, and before a reference is stored.
-use Rattle.std.specs.Prelude.{◌≡◌, ℕ, ◌+◌, ◌<◌, Bool, true, false, not, ◌&&◌, List, [], ◌∷◌, ◌++◌, length, get_or, map, take, Option, Some, None}
+-- Marking the units to which references lead: while a unit is scanned, before a reference is stored, and where a collection begins.
+use Rattle.std.specs.Prelude.{◌≡◌, ℕ, ◌+◌, ◌<◌, Bool, true, false, if◌then◌else◌, not, ◌&&◌, List, [], ◌∷◌, ◌++◌, get_or, map, Option, Some, None}
 use Rattle.std.specs.Option.{option_map_or}
 use Rattle.std.proofs.Math.ListN.{set}
-use Rattle.heap_plain.specs.Types.{Name, Ref, Kind, Phase, Lane, Marker, Entry}
+use Rattle.heap_plain.specs.Types.{Name, Ref, Kind, Phase, Pass, Lane, Entry}
 use Rattle.heap_plain.specs.Types.act
 use Rattle.world_model.specs.Calls.{by}
-use Rattle.world_model.proofs.ListFacts.{Among}
+use Rattle.heap_plain.specs.Painted.{Painted, IsWorklist, greyed, all_greyed}
 use Rattle.heap_plain.specs.Parts.{first_at, kind_at, target_at, is_marking}
 use Rattle.heap_plain.specs.Listing.{chained}
-use Rattle.heap_plain.specs.Notes.{names_at, all_set}
-use Rattle.heap_plain.specs.Lists.{Distinct}
-
--- ---- one unit
-
--- where it must be, the unit at the index is marked and put on the worklist, and these entries are added
-pub record MarksIf (must : Bool) (head : ℕ) (notes : List Entry) (marked marked' : List Bool) (work work' : List ℕ) (pushed pushed' : ℕ) (old new : List Entry) : Type 0 where
-  pub marks : must ≡ true → (marked' ≡ set marked head true) × (work' ≡ set work pushed head) × (pushed' ≡ pushed + 1) × (new ≡ old ++ notes)
-  pub stays : must ≡ false → (marked' ≡ marked) × (work' ≡ work) × (pushed' ≡ pushed) × (new ≡ old)
+use Rattle.heap_plain.specs.Notes.{names_at}
 
 -- ---- the barrier
+
+-- where it must be, the unit at the index is marked and listed as grey, and these entries are added
+pub record MarksIf (must : Bool) (head : ℕ) (notes : List Entry) (c c' : Painted) (old new : List Entry) : Type 0 where
+  pub marks : must ≡ true → (c' ≡ greyed c head) × (new ≡ old ++ notes)
+  pub stays : must ≡ false → (c' ≡ c) × (new ≡ old)
 
 -- a reference is to be stored to a unit that is white, while a collection marks
 abbrev pub must_shade : Phase → List ℕ → List Bool → Option Ref → Bool
@@ -33,7 +30,11 @@ abbrev pub shade_notes : ℕ → Option Ref → List Entry
 shade_notes lane None = []
 shade_notes lane (Some r) = record { pass = Lane lane; act = act.Kept r.name } ∷ []
 
--- ---- scanning
+-- what is stored into the root set where a root bit is set
+abbrev pub rooting : Bool → Ref → Option Ref
+rooting on at = if on then Some at else None
+
+-- ---- units of many objects
 
 -- which indexes count cells in a row hold
 abbrev pub InRow : List (Option ℕ) → ℕ → ℕ → ℕ → Type 0
@@ -44,25 +45,24 @@ abbrev pub InUnit : List Kind → ℕ → List (Option ℕ) → List ℕ → ℕ
 InUnit kinds slots targets links head count t =
     (k : ℕ) × (slot : ℕ) × (k < count) × (slot < (kind_at kinds (chained links head k)).refs) × (target_at slots targets (chained links head k) slot ≡ Some t)
 
--- the units on the worklist are different, and marked
-pub record IsWorklist (marked : List Bool) (work : List ℕ) (pushed : ℕ) : Type 0 where
-  pub distinct : Distinct (take pushed work)
-  pub set : (head : ℕ) → Among (take pushed work) head → get_or marked head false ≡ true
-  pub room : length marked ≡ length work
-  pub used : length (take pushed work) ≡ pushed
+-- the index of a rooted object, if its root bit is set
+abbrev pub root_bit : List Bool → ℕ → Option ℕ
+root_bit roots i = if get_or roots i false then Some i else None
+
+-- which of the first count indexes have their root bit set
+abbrev pub InRoots : List Bool → ℕ → ℕ → Type 0
+InRoots roots count t = (t < count) × (get_or roots t false ≡ true)
 
 -- each of these units holds an object at one of the indexes, and was white when it was marked
 abbrev pub CanShade : List ℕ → (ℕ → Type 0) → List Bool → List ℕ → Type 0
 CanShade firsts At bits [] = Unit {0}
 CanShade firsts At bits (head ∷ rest) = ((t : ℕ) × At t × (first_at firsts t ≡ head)) × (get_or bits head false ≡ false) × CanShade firsts At (set bits head true) rest
 
--- The units of the objects at these indexes: those that were white are marked, noted and put on the worklist.
-pub record Shades (names : List (Option Name)) (firsts : List ℕ) (At : ℕ → Type 0) (marker : ℕ) (marked marked' : List Bool) (work work' : List ℕ)
-    (pushed pushed' : ℕ) (old new : List Entry) : Type 0 where
+-- The units of the objects at these indexes: those that were white are marked, noted and listed as grey.
+pub record Shades (names : List (Option Name)) (firsts : List ℕ) (At : ℕ → Type 0) (pass : Pass) (c c' : Painted) (old new : List Entry) : Type 0 where
   pub heads : List ℕ
-  pub listed : take pushed' work' ≡ take pushed work ++ heads
-  pub bits : marked' ≡ all_set marked heads
-  pub entries : new ≡ old ++ by (Marker marker) (map act.Kept (names_at names heads))
-  pub can : CanShade firsts At marked heads
-  pub each : (t : ℕ) → At t → get_or marked' (first_at firsts t) false ≡ true
-  pub fits : IsWorklist marked' work' pushed'
+  pub colours : c' ≡ all_greyed c heads
+  pub entries : new ≡ old ++ by pass (map act.Kept (names_at names heads))
+  pub can : CanShade firsts At c.marked heads
+  pub each : (t : ℕ) → At t → get_or c'.marked (first_at firsts t) false ≡ true
+  pub fits : IsWorklist c'

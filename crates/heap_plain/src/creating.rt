@@ -1,6 +1,5 @@
 //! Making a unit.
-ghost use Rattle.std.specs.Prelude.{◌≡◌, ◌∷◌, [], ◌++◌, ◌+◌, ◌-◌, ◌*◌, ◌≤◌, ◌<◌, ◌^◌, Some, length, true};
-ghost use Rattle.std.proofs.Math.ListN.{set};
+ghost use Rattle.std.specs.Prelude.{◌≡◌, ◌∷◌, [], ◌++◌, ◌+◌, ◌-◌, ◌*◌, ◌≤◌, ◌<◌, ◌^◌, Some, length};
 ghost use Rattle.heap_plain.specs.Types.{Lane};
 ghost use Rattle.world_model.specs.Engines.{act_of_refusal};
 ghost use Rattle.heap_plain.specs.Filling.{Filled, FilledAt, RowsFilled};
@@ -110,18 +109,6 @@ pub(crate) fn link(next: &mut Vec<u32>, free: &[u32], top: usize, count: usize)
     for k in 0..count - 1 {
         next[popped(free, top, k) as usize] = popped(free, top, k + 1);
     }
-}
-
-/// Begins a unit of `count` objects at an index, and marks it: what is made while a collection marks
-/// is kept by it.
-pub(crate) fn begin_unit(sizes: &mut Vec<u32>, marked: &mut Vec<bool>, head: u32, count: u32)
-    requires size { head < length sizes.old.items }
-    requires mark { head < length marked.old.items }
-    ensures size { sizes.new.items ≡ set sizes.old.items head count }
-    ensures mark { marked.new.items ≡ set marked.old.items head true }
-{
-    sizes[head as usize] = count;
-    marked[head as usize] = true;
 }
 
 /// Writes references to the objects at the indexes that the stack gives, whose names are those of

@@ -7,21 +7,20 @@ ghost use Rattle.heap_plain.specs.Parts.{Holds, HoldsNothing};
 ghost use Rattle.world_model.specs.Calls.{Appends};
 ghost use Rattle.world_model.specs.Engines.{KeepsHeld};
 
-use crate::creating::{
-    answer, begin_unit, classify, decide, fill_popped, fill_rows, link, place, refuse,
-};
+use crate::colours::Colours;
+use crate::creating::{answer, classify, decide, fill_popped, fill_rows, link, place, refuse};
 use crate::filled::{copy, fill, filled};
 use crate::frames::count_open;
 use crate::life::Life;
 use crate::listing::{list_unit, list_units};
-use crate::marking::{is_done, keep_roots, may_end, may_start, named, starts, stop_of};
-use crate::parting::loosen;
+use crate::marking::{is_done, may_end, may_start, named, starts, stop_of};
+use crate::parting::{MEMBERS, loosen};
 use crate::purging::{ask_at, begin_at, finish_at, release};
 use crate::queue::Queue;
-use crate::rooting::{must_mark, store};
-use crate::scanning::shade_unit;
+use crate::rooting::store;
+use crate::scanning::{shade_roots, shade_unit};
 use crate::stacks::{full_stacks, popped};
-use crate::storing::{index_of, name_of, referred, shade_target};
+use crate::storing::{index_of, name_of, referred, rooting, shade_target};
 use crate::sweeping::{find_removed, remove_white};
 use std::alloc::{AllocError, Global};
 use std::marker::{Model, PhantomData};
@@ -47,8 +46,9 @@ const NO_KIND: Kind = Kind {
 /// queue of destruction, and whether it is garbage.
 /// Opening and closing a frame, setting a root, reading and writing a cell, and marking an object as
 /// garbage and asking for that cost a few steps; making a unit as many as it has cells; taking one apart
-/// as many as it has members; a slice of marking as many as the objects that it scans have reference
-/// cells; a step of destruction as many as it has objects; the rest looks at all items.
+/// as many as it has members, and a table of as many places as a unit may have members is cleared for
+/// it; a slice of marking as many as the objects that it scans have reference cells; a step of
+/// destruction as many as it has objects; the rest looks at all items.
 #[derive(Drop)]
 pub struct PlainHeap<S: Shape> {
     /// The name at each index, while its object is not released.
@@ -65,14 +65,8 @@ pub struct PlainHeap<S: Shape> {
     plains: Vec<u64>,
     lives: Vec<Life>,
     roots: Vec<bool>,
-    /// At the index of the first member of a unit whether the unit is marked.
-    marked: Vec<bool>,
-    /// The worklist of the running collection: the units that were marked since it began, by the
-    /// index of the first member. The first `scanned` are black, those up to `pushed` are grey. While
-    /// no collection marks, a unit's members are listed here as it is taken apart.
-    work: Vec<u32>,
-    scanned: usize,
-    pushed: usize,
+    /// Which units are marked, and the worklist of the running collection.
+    colours: Colours,
     /// The stacks of free indexes: that of a lane begins at the lane's first index, and has as many
     /// entries as the lane has spare indexes.
     free: Vec<u32>,
@@ -114,7 +108,7 @@ impl<S: Shape> Model for PlainHeap<S> {
       rows = record { kinds = h.kinds.items; targets = h.targets.items; plains = h.plains.items };
       roots = h.roots.items;
       garbage = h.garbage.items;
-      colours = record { marked = h.marked.items; work = h.work.items; scanned = h.scanned; pushed = h.pushed };
+      colours = h.colours;
       stock = record { free = h.free.items; spare = h.spare.items; made = h.made.items };
       ends = record { left = h.left; swept = h.swept; queue = h.queue; polls = h.polls.items; waiting = h.waiting.items; done = h.done };
     }) h.diary };
@@ -140,10 +134,7 @@ impl<S: Shape> PlainHeap<S> {
             plains: filled(alloc, cells, 0)?,
             lives: filled(alloc, items, Life::Free)?,
             roots: filled(alloc, items, false)?,
-            marked: filled(alloc, items, false)?,
-            work: filled(alloc, items, 0)?,
-            scanned: 0,
-            pushed: 0,
+            colours: Colours::new(alloc, items)?,
             free: full_stacks(alloc, lanes, quota as usize)?,
             spare: filled(alloc, lanes, quota)?,
             made: filled(alloc, lanes, 0)?,
@@ -208,7 +199,8 @@ impl<S: Shape> Engine<S> for PlainHeap<S> {
         fill_popped(&mut self.lives, &self.free, top, asked, Life::Live);
         link(&mut self.next, &self.free, top, asked);
         fill_popped(&mut self.garbage, &self.free, top, asked, false);
-        begin_unit(&mut self.sizes, &mut self.marked, head, asked as u32);
+        self.sizes[head as usize] = asked as u32;
+        self.colours.bear(head);
         self.spare[lane as usize] = spare - asked as u32;
         self.made[lane as usize] = made + asked as u64;
         self.diary.make(Pass::Lane(lane), kinds, made + 1);
@@ -230,14 +222,12 @@ impl<S: Shape> Engine<S> for PlainHeap<S> {
 
     fn write_ref(&mut self, lane: u32, at: Ref, slot: u32, to: Option<Ref>) -> Option<Ref> {
         let place = at.index as usize * S::SLOTS as usize + slot as usize;
-        self.pushed = shade_target(
+        shade_target(
             self.phase,
             to,
-            &self.firsts,
-            &mut self.marked,
-            &mut self.work,
-            self.pushed,
             lane,
+            &self.firsts,
+            &mut self.colours,
             &mut self.diary,
         );
         let old = referred(&self.names, self.targets[place]);
@@ -264,15 +254,15 @@ impl<S: Shape> Engine<S> for PlainHeap<S> {
     }
 
     fn set_root(&mut self, lane: u32, at: Ref, on: bool) -> bool {
+        shade_target(
+            self.phase,
+            rooting(on, at),
+            lane,
+            &self.firsts,
+            &mut self.colours,
+            &mut self.diary,
+        );
         let index = at.index as usize;
-        let head = self.firsts[index];
-        if must_mark(on, self.phase, self.marked[head as usize]) {
-            self.marked[head as usize] = true;
-            self.work[self.pushed] = head;
-            self.pushed += 1;
-            self.diary.kept(Pass::Lane(lane), at.name);
-            return store(&mut self.roots, index, lane, at.name, on, &mut self.diary);
-        }
         store(&mut self.roots, index, lane, at.name, on, &mut self.diary)
     }
 
@@ -286,11 +276,12 @@ impl<S: Shape> Engine<S> for PlainHeap<S> {
         }
         let head = self.firsts[at.index as usize];
         let count = self.sizes[head as usize];
-        list_unit(&self.next, head, count as usize, &mut self.work, 0);
+        let mut members = [0; MEMBERS];
+        list_unit(&self.next, head, count as usize, &mut members);
         let mut left = count;
         while left > 1 {
             left -= 1;
-            let index = self.work[left as usize];
+            let index = members[left as usize];
             self.diary
                 .loose(Pass::Lane(lane), named(&self.names, index as usize));
             loosen(&mut self.firsts, &mut self.sizes, head, left, index);
@@ -316,10 +307,10 @@ impl<S: Shape> Engine<S> for PlainHeap<S> {
     fn mark(&mut self, marker: u32, budget: u32) -> Marked {
         self.diary.slice_open(Pass::Marker(marker));
         let mut scanned = 0;
-        while self.scanned < self.pushed && scanned < budget {
-            let head = self.work[self.scanned];
+        while self.colours.grey() > 0 && scanned < budget {
+            let head = self.colours.next();
             let size = self.sizes[head as usize];
-            self.pushed = shade_unit(
+            shade_unit(
                 &self.names,
                 &self.firsts,
                 &self.next,
@@ -328,13 +319,11 @@ impl<S: Shape> Engine<S> for PlainHeap<S> {
                 S::SLOTS as usize,
                 head,
                 size,
-                &mut self.marked,
-                &mut self.work,
-                self.pushed,
-                marker,
+                Pass::Marker(marker),
+                &mut self.colours,
                 &mut self.diary,
             );
-            self.scanned += 1;
+            self.colours.blacken();
             self.diary
                 .scanned(Pass::Marker(marker), named(&self.names, head as usize));
             scanned += size;
@@ -360,15 +349,12 @@ impl<S: Shape> Engine<S> for PlainHeap<S> {
         self.diary.begin_gc(Pass::Collector, reply);
         if starts(reply) {
             self.phase = Phase::Marking;
-            self.scanned = 0;
-            let items = self.marked.len();
-            fill(&mut self.marked, 0, items, false);
-            self.pushed = keep_roots(
+            self.colours.clear();
+            shade_roots(
                 &self.names,
                 &self.firsts,
                 &self.roots,
-                &mut self.marked,
-                &mut self.work,
+                &mut self.colours,
                 &mut self.diary,
             );
             return Begin::Started;
@@ -382,11 +368,7 @@ impl<S: Shape> Engine<S> for PlainHeap<S> {
         ensures held { KeepsHeld (Holds self.old) (Holds self.new) }
         ensures word { (word bits : ℕ) → result ≡ commit.Unfinished word bits → (word ≡ 0) × (bits ≡ 1) }
     {
-        let reply = may_end(
-            self.phase,
-            self.pushed - self.scanned,
-            count_open(&self.frames),
-        );
+        let reply = may_end(self.phase, self.colours.grey(), count_open(&self.frames));
         self.diary.commit_gc(Pass::Collector, reply);
         if is_done(reply) {
             self.phase = Phase::Gathering;
@@ -397,7 +379,7 @@ impl<S: Shape> Engine<S> for PlainHeap<S> {
             let items = self.polls.len();
             fill(&mut self.polls, 0, items, 0);
             copy(&mut self.waiting, &self.sizes);
-            remove_white(&self.firsts, &self.marked, &mut self.lives);
+            remove_white(&self.firsts, &self.colours, &mut self.lives);
             return Commit::Done;
         }
         reply

@@ -4,6 +4,7 @@
 //! `PlainHeap` by the contract of that trait, and know besides that a new one has an empty history.
 #![tactic(auto)]
 
+mod colours;
 mod creating;
 mod filled;
 mod frames;

@@ -8,16 +8,15 @@ ghost use Rattle.heap_plain.specs.Listing.{chained, chain, begins, units_at, Can
 use crate::life::Life;
 use crate::queue::Queue;
 
-/// Writes the indexes of a unit's members, of which the first is at `head`, to the places from `at`
-/// on.
-pub(crate) fn list_unit(next: &[u32], head: u32, count: usize, order: &mut Vec<u32>, at: usize)
+/// Writes the indexes of a unit's members, of which the first is at `head`, to the first places.
+pub(crate) fn list_unit(next: &[u32], head: u32, count: usize, members: &mut [u32])
     requires chain { (k : ℕ) → k < count → chained next.now head k < length next.now }
-    requires room { at + count ≤ length order.old.items }
-    ensures { Filled order.old.items order.new.items at count (chained next.now head) }
+    requires room { count ≤ length members.old }
+    ensures { Filled members.old members.new 0 count (chained next.now head) }
 {
     let mut index = head;
     for k in 0..count {
-        order[at + k] = index;
+        members[k] = index;
         index = next[index as usize];
     }
 }

@@ -2,6 +2,9 @@
 ghost use Rattle.std.specs.Prelude.{◌≡◌, ◌<◌, length};
 ghost use Rattle.std.proofs.Math.ListN.{set};
 
+/// How many members a unit has at most.
+pub(crate) const MEMBERS: usize = 1024;
+
 /// Makes the last member of the unit that begins at `head`, which is at `index`, a unit by itself.
 /// `left` members stay.
 pub(crate) fn loosen(firsts: &mut Vec<u32>, sizes: &mut Vec<u32>, head: u32, left: u32, index: u32)

@@ -1,5 +1,5 @@
 //! The root set, and the barrier at a store into it.
-ghost use Rattle.std.specs.Prelude.{◌≡◌, ◌∷◌, [], ◌++◌, ◌+◌, ◌<◌, ◌&&◌, not, get_or, length, false};
+ghost use Rattle.std.specs.Prelude.{◌≡◌, ◌∷◌, [], ◌++◌, ◌<◌, get_or, length, false};
 ghost use Rattle.std.proofs.Math.ListN.{set};
 ghost use Rattle.heap_plain.specs.Types.{Lane};
 ghost use Rattle.heap_plain.specs.Types.act;
@@ -15,13 +15,6 @@ pub(crate) fn is_marking(phase: Phase) -> bool
         Phase::Marking => true,
         _ => false,
     }
-}
-
-/// Whether a store into the root set has to mark the unit of its object first.
-pub(crate) fn must_mark(on: bool, phase: Phase, marked: bool) -> bool
-    ensures { result ≡ (on && (is_marking phase && not marked)) }
-{
-    on && is_marking(phase) && !marked
 }
 
 /// Sets the root bit at an index, notes it, and tells what it was.

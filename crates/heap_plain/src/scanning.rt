@@ -1,41 +1,39 @@
-//! Scanning: marking the units to which the reference cells of a unit lead.
-ghost use Rattle.std.specs.Prelude.{◌≡◌, ◌+◌, ◌*◌, ◌<◌, ◌≤◌, ◌^◌, IsSome, Some, None, get_or, length, false, ℕ};
+//! Marking the units to which the reference cells of a unit and the root bits lead.
+ghost use Rattle.std.specs.Prelude.{◌≡◌, ◌+◌, ◌*◌, ◌<◌, ◌≤◌, ◌^◌, IsSome, Some, get_or, length, ℕ};
+ghost use Rattle.heap_plain.specs.Types.{Collector};
 ghost use Rattle.heap_plain.specs.Parts.{name_at, first_at, kind_at, target_at};
+ghost use Rattle.heap_plain.specs.Painted.{IsWorklist};
 ghost use Rattle.heap_plain.specs.Listing.{chained};
-ghost use Rattle.heap_plain.specs.Shading.{InRow, InUnit, IsWorklist, Shades};
+ghost use Rattle.heap_plain.specs.Shading.{InRoots, InRow, InUnit, Shades, root_bit};
 
+use crate::colours::Colours;
 use crate::marking::named;
 use world_model::{Diary, Kind, Name, Pass};
 
-/// Marks the unit of the object at an index, if there is one and its unit is white: notes it, and
-/// puts it on the worklist, of which `pushed` places are used. It tells how many are used after that.
+/// Marks the unit of the object at an index, if there is one and its unit is white, and notes it.
 fn shade(
     names: &[Option<Name>],
     firsts: &[u32],
     target: Option<u32>,
-    marked: &mut Vec<bool>,
-    work: &mut Vec<u32>,
-    pushed: usize,
-    marker: u32,
+    pass: Pass,
+    colours: &mut Colours,
     diary: &mut Diary,
-) -> usize
+)
     requires target { (t : ℕ) → target ≡ Some t → t < length firsts.now }
-    requires heads { (i : ℕ) → first_at firsts.now i < length marked.old.items }
+    requires heads { (i : ℕ) → first_at firsts.now i < length colours.old.marked }
     requires named { (t : ℕ) → target ≡ Some t → IsSome (name_at names.now (first_at firsts.now t)) }
-    requires fits { IsWorklist marked.old.items work.old.items pushed }
-    ensures { Shades names.now firsts.now (λ t. target ≡ Some t) marker marked.old.items marked.new.items work.old.items work.new.items pushed result diary.old diary.new }
+    requires fits { IsWorklist colours.old }
+    ensures { Shades names.now firsts.now (λ t. target ≡ Some t) pass colours.old colours.new diary.old diary.new }
 {
     let Some(index) = target else {
-        return pushed;
+        return;
     };
     let head = firsts[index as usize];
-    if marked[head as usize] {
-        return pushed;
+    if colours.is_marked(head) {
+        return;
     }
-    marked[head as usize] = true;
-    work[pushed] = head;
-    diary.kept(Pass::Marker(marker), named(names, head as usize));
-    pushed + 1
+    colours.mark(head);
+    diary.kept(pass, named(names, head as usize));
 }
 
 /// Marks the units to which `count` cells lead, of which the first is at the place `row`.
@@ -45,25 +43,21 @@ fn shade_row(
     targets: &[Option<u32>],
     row: usize,
     count: usize,
-    marked: &mut Vec<bool>,
-    work: &mut Vec<u32>,
-    pushed: usize,
-    marker: u32,
+    pass: Pass,
+    colours: &mut Colours,
     diary: &mut Diary,
-) -> usize
+)
     requires row { row + count ≤ length targets.now }
     requires target { (t : ℕ) → InRow targets.now row count t → t < length firsts.now }
-    requires heads { (i : ℕ) → first_at firsts.now i < length marked.old.items }
+    requires heads { (i : ℕ) → first_at firsts.now i < length colours.old.marked }
     requires named { (t : ℕ) → InRow targets.now row count t → IsSome (name_at names.now (first_at firsts.now t)) }
-    requires fits { IsWorklist marked.old.items work.old.items pushed }
-    ensures { Shades names.now firsts.now (InRow targets.now row count) marker marked.old.items marked.new.items work.old.items work.new.items pushed result diary.old diary.new }
+    requires fits { IsWorklist colours.old }
+    ensures { Shades names.now firsts.now (InRow targets.now row count) pass colours.old colours.new diary.old diary.new }
 {
-    let mut used = pushed;
     for slot in 0..count {
         let target = targets[row + slot];
-        used = shade(names, firsts, target, marked, work, used, marker, diary);
+        shade(names, firsts, target, pass, colours, diary);
     }
-    used
 }
 
 /// Marks the units to which the reference cells of the `count` members of a unit lead, of which the
@@ -77,32 +71,60 @@ pub(crate) fn shade_unit(
     slots: usize,
     head: u32,
     count: u32,
-    marked: &mut Vec<bool>,
-    work: &mut Vec<u32>,
-    pushed: usize,
-    marker: u32,
+    pass: Pass,
+    colours: &mut Colours,
     diary: &mut Diary,
-) -> usize
+)
     requires chain { (k : ℕ) → k < count → chained next.now head k < length next.now }
     requires kinds { length next.now ≤ length kinds.now }
     requires rows { length next.now * slots ≤ length targets.now }
     requires fit { (i : ℕ) → (kind_at kinds.now i).refs ≤ slots }
     requires target { (i slot t : ℕ) → slot < slots → target_at slots targets.now i slot ≡ Some t → t < length firsts.now }
-    requires heads { (i : ℕ) → first_at firsts.now i < length marked.old.items }
+    requires heads { (i : ℕ) → first_at firsts.now i < length colours.old.marked }
     requires named { (t : ℕ) → InUnit kinds.now slots targets.now next.now head count t → IsSome (name_at names.now (first_at firsts.now t)) }
-    requires fits { IsWorklist marked.old.items work.old.items pushed }
-    ensures { Shades names.now firsts.now (InUnit kinds.now slots targets.now next.now head count) marker marked.old.items marked.new.items work.old.items work.new.items pushed result diary.old diary.new }
+    requires fits { IsWorklist colours.old }
+    ensures { Shades names.now firsts.now (InUnit kinds.now slots targets.now next.now head count) pass colours.old colours.new diary.old diary.new }
 {
-    let mut used = pushed;
     let mut index = head;
     for k in 0..count {
         let _ = k;
         let row = index as usize * slots;
         let refs = kinds[index as usize].refs as usize;
-        used = shade_row(
-            names, firsts, targets, row, refs, marked, work, used, marker, diary,
-        );
+        shade_row(names, firsts, targets, row, refs, pass, colours, diary);
         index = next[index as usize];
     }
-    used
+}
+
+/// The index, if its root bit is set.
+fn root_bit(roots: &[bool], index: usize) -> Option<u32>
+    requires inside { index < length roots.now }
+    requires few { index < 2 ^ 32 }
+    ensures { result ≡ root_bit roots.now index }
+{
+    if roots[index] {
+        Some(index as u32)
+    } else {
+        None
+    }
+}
+
+/// Marks the units of all rooted objects.
+pub(crate) fn shade_roots(
+    names: &[Option<Name>],
+    firsts: &[u32],
+    roots: &[bool],
+    colours: &mut Colours,
+    diary: &mut Diary,
+)
+    requires firsts { length firsts.now ≡ length roots.now }
+    requires few { length roots.now < 2 ^ 32 }
+    requires heads { (i : ℕ) → first_at firsts.now i < length colours.old.marked }
+    requires named { (t : ℕ) → InRoots roots.now (length roots.now) t → IsSome (name_at names.now (first_at firsts.now t)) }
+    requires fits { IsWorklist colours.old }
+    ensures { Shades names.now firsts.now (InRoots roots.now (length roots.now)) Collector colours.old colours.new diary.old diary.new }
+{
+    for i in 0..roots.len() {
+        let root = root_bit(roots, i);
+        shade(names, firsts, root, Pass::Collector, colours, diary);
+    }
 }

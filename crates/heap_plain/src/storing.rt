@@ -2,11 +2,12 @@
 ghost use Rattle.std.specs.Prelude.{◌≡◌, ◌<◌, IfSome, IsSome, Some, get_or, length, option_map, true, ℕ};
 ghost use Rattle.world_model.specs.Engines.{name_of};
 ghost use Rattle.heap_plain.specs.Parts.{name_at, first_at};
-ghost use Rattle.heap_plain.specs.Shading.{MarksIf, must_shade, head_of, shade_notes};
+ghost use Rattle.heap_plain.specs.Shading.{MarksIf, must_shade, head_of, shade_notes, rooting};
 ghost use Rattle.heap_plain.specs.Storing.{Refers};
 
+use crate::colours::Colours;
 use crate::marking::named;
-use crate::rooting::must_mark;
+use crate::rooting::is_marking;
 use world_model::{Diary, Name, Pass, Phase, Ref};
 
 /// The name behind a reference, if there is one.
@@ -43,33 +44,35 @@ pub(crate) fn referred(names: &[Option<Name>], target: Option<u32>) -> Option<Re
     }
 }
 
-/// Marks the unit of an object to which a reference is to be stored, where a collection marks and
-/// the unit is white: notes it, and puts it on the worklist, of which `pushed` places are used. It
-/// tells how many are used after that.
+/// What is stored into the root set where the root bit of an object is set to `on`.
+pub(crate) fn rooting(on: bool, at: Ref) -> Option<Ref>
+    ensures { result ≡ rooting on at }
+{
+    if on { Some(at) } else { None }
+}
+
+/// Marks the unit of an object to which a lane is to store a reference, where a collection marks and
+/// the unit is white, and notes it.
 pub(crate) fn shade_target(
     phase: Phase,
     to: Option<Ref>,
-    firsts: &[u32],
-    marked: &mut Vec<bool>,
-    work: &mut Vec<u32>,
-    pushed: usize,
     lane: u32,
+    firsts: &[u32],
+    colours: &mut Colours,
     diary: &mut Diary,
-) -> usize
+)
     requires index { IfSome to (λ r. r.index < length firsts.now) }
-    requires heads { (i : ℕ) → first_at firsts.now i < length marked.old.items }
-    requires room { must_shade phase firsts.now marked.old.items to ≡ true → pushed < length work.old.items }
-    ensures { MarksIf (must_shade phase firsts.now marked.old.items to) (head_of firsts.now to) (shade_notes lane to) marked.old.items marked.new.items work.old.items work.new.items pushed result diary.old diary.new }
+    requires heads { (i : ℕ) → first_at firsts.now i < length colours.old.marked }
+    requires room { must_shade phase firsts.now colours.old.marked to ≡ true → length colours.old.listed < length colours.old.marked }
+    ensures { MarksIf (must_shade phase firsts.now colours.old.marked to) (head_of firsts.now to) (shade_notes lane to) colours.old colours.new diary.old diary.new }
 {
     let Some(target) = to else {
-        return pushed;
+        return;
     };
     let head = firsts[target.index as usize];
-    if !must_mark(true, phase, marked[head as usize]) {
-        return pushed;
+    if !is_marking(phase) || colours.is_marked(head) {
+        return;
     }
-    marked[head as usize] = true;
-    work[pushed] = head;
+    colours.mark(head);
     diary.kept(Pass::Lane(lane), target.name);
-    pushed + 1
 }

@@ -3,6 +3,7 @@ ghost use Rattle.std.specs.Prelude.{◌≡◌, ◌+◌, ◌<◌, ◌≤◌, ◌^
 ghost use Rattle.heap_plain.specs.Parts.{name_at, life_at, first_at, is_removed};
 ghost use Rattle.heap_plain.specs.Sweeping.{without, Removes, Looks, Finds};
 
+use crate::colours::Colours;
 use crate::life::Life;
 use crate::marking::named;
 use world_model::Name;
@@ -18,13 +19,13 @@ fn without(life: Life, marked: bool) -> Life
 }
 
 /// Removes the objects of all units that are not marked.
-pub(crate) fn remove_white(firsts: &[u32], marked: &[bool], lives: &mut Vec<Life>)
+pub(crate) fn remove_white(firsts: &[u32], colours: &Colours, lives: &mut Vec<Life>)
     requires firsts { length firsts.now ≡ length lives.old.items }
-    requires heads { (i : ℕ) → first_at firsts.now i < length marked.now }
-    ensures { Removes firsts.now marked.now lives.old.items lives.new.items (length lives.old.items) }
+    requires heads { (i : ℕ) → first_at firsts.now i < length colours.now.marked }
+    ensures { Removes firsts.now colours.now.marked lives.old.items lives.new.items (length lives.old.items) }
 {
     for i in 0..lives.len() {
-        lives[i] = without(lives[i], marked[firsts[i] as usize]);
+        lives[i] = without(lives[i], colours.is_marked(firsts[i]));
     }
 }
 

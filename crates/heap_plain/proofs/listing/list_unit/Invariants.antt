@@ -6,5 +6,5 @@ use Rattle.heap_plain.proofs.listing.list_unit.Given as goal
 abbrev pub invariant-loop-k : goal.invariant-loop-k
 invariant-loop-k l = record {
   index : l.index ≡ chained l.next l.head l.k;
-  filled : Filled l.fn.order.items l.order.items l.at l.k (chained l.next l.head);
+  filled : Filled l.fn.members l.members 0 l.k (chained l.next l.head);
 }

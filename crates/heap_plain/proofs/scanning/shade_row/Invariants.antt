@@ -2,4 +2,4 @@ use Rattle.heap_plain.specs.Shading.{InRow, Shades}
 use Rattle.heap_plain.proofs.scanning.shade_row.Given as goal
 
 abbrev pub invariant-loop-slot : goal.invariant-loop-slot
-invariant-loop-slot l = Shades l.names l.firsts (InRow l.targets l.row l.slot) l.marker l.fn.marked.items l.marked.items l.fn.work.items l.work.items l.pushed l.used l.fn.diary l.diary
+invariant-loop-slot l = Shades l.names l.firsts (InRow l.targets l.row l.slot) l.pass l.fn.colours l.colours l.fn.diary l.diary

@@ -6,5 +6,5 @@ use Rattle.heap_plain.proofs.scanning.shade_unit.Given as goal
 abbrev pub invariant-loop-k : goal.invariant-loop-k
 invariant-loop-k l = record {
   index : l.index ≡ chained l.next l.head l.k;
-  shades : Shades l.names l.firsts (InUnit l.kinds l.slots l.targets l.next l.head l.k) l.marker l.fn.marked.items l.marked.items l.fn.work.items l.work.items l.pushed l.used l.fn.diary l.diary;
+  shades : Shades l.names l.firsts (InUnit l.kinds l.slots l.targets l.next l.head l.k) l.pass l.fn.colours l.colours l.fn.diary l.diary;
 }

@@ -111,17 +111,20 @@ fill_popped-requires-3 g c =
           (c.QUOTA.ensures ∙ g.S.Shape.constants.quota) c.self.invariant.shows.garbage.len c.deref-9.ensures.value c.in_default.ensures.1;
     }
 
-pub begin_unit-requires : goal.begin_unit-requires
-begin_unit-requires g c =
+pub index_mut-requires : goal.index_mut-requires
+index_mut-requires g c =
     let frame = rw (← c.self.view_is) at c.requires.frame in
     let units = c.self.invariant.shows.units in
     let stack = pops c.self.invariant.shows.free _ _ _ _ _ _ frame.in_range c.index-spare.ensures
     (c.QUOTA.ensures ∙ g.S.Shape.constants.quota) units.sizes_len c.deref.ensures.value c.in_default.ensures.1 in
-    let below = stack.places 0 c.requires.some in
-    record {
-      size = omega (arith, below, c.popped-head.ensures);
-      mark = omega (arith, below, c.popped-head.ensures, units.sizes_len, c.self.invariant.shows.work.marked_len);
-    }
+    omega (arith, stack.places 0 c.requires.some, c.popped-head.ensures, c.self.inside.sizes.ok.0)
+
+pub bear-requires : goal.bear-requires
+bear-requires g c =
+    let frame = rw (← c.self.view_is) at c.requires.frame in
+    let stack = pops c.self.invariant.shows.free _ _ _ _ _ _ frame.in_range c.index-spare.ensures
+    (c.QUOTA.ensures ∙ g.S.Shape.constants.quota) c.self.invariant.shows.marked_len c.deref.ensures.value c.in_default.ensures.1 in
+    omega (arith, stack.places 0 c.requires.some, c.popped-head.ensures)
 
 pub answer-requires-clause-room : goal.answer-requires-clause-room
 answer-requires-clause-room g c =
@@ -136,7 +139,7 @@ creation : (g : Over) (c : goal.After-out-1 g) → Creation g.S.Shape.sizes (rec
   rows = record { kinds = c.self.inside.kinds.items; targets = c.self.inside.targets.items; plains = c.self.inside.plains.items };
   roots = c.self.inside.roots.items;
   garbage = c.self.inside.garbage.items;
-  colours = record { marked = c.self.inside.marked.items; work = c.self.inside.work.items; scanned = c.self.inside.scanned; pushed = c.self.inside.pushed };
+  colours = c.self.inside.colours;
   stock = record { free = c.self.inside.free.items; spare = c.self.inside.spare.items; made = c.self.inside.made.items };
   ends =
       record {
@@ -180,8 +183,7 @@ invariant_of-self-2 g c =
     let now = spare_read c.self.invariant.shows.free _ _ (creation g c).frame.in_range c.index-spare.ensures in
     rw (
       c.make.ensures,
-      c.begin_unit.ensures.size,
-      c.begin_unit.ensures.mark,
+      c.bear.ensures,
       c.popped-head.ensures,
       c.deref.ensures.value,
       c.QUOTA.ensures,

@@ -1,4 +1,4 @@
-use Rattle.std.proofs.Common.{◌≡◌, ◌-◌, ◌<◌, ◌∙◌, refl, arith, get_or}
+use Rattle.std.proofs.Common.{◌≡◌, ◌<◌, refl, arith, get_or}
 use Rattle.std.proofs.lemmas.List.{get_or_read}
 use Rattle.heap_plain.specs.Parts.{first_at}
 use Rattle.heap_plain.proofs.Resting.{keeps}
@@ -44,7 +44,7 @@ list_unit-requires g c =
     get_or_read c.self.inside.sizes.items _ _ (omega (arith, under, s.units.sizes_len)) (rw head at c.index-count.ensures) 0 in
     rw (c.deref.ensures.value, head, count) (record {
       chain = λ k b. omega (arith, members_below c.self.invariant frame held c.requires.own k b, s.units.links_len);
-      room = omega (arith, room c.self.invariant frame held c.requires.own, s.work.work_len);
+      room = room c.self.invariant frame held c.requires.own;
     })
 
 pub loop-left-init : goal.loop-left-init
@@ -58,26 +58,19 @@ loop-left-init g c =
     get_or_read c.self.inside.firsts.items _ _ (omega (arith, below, s.units.firsts_len)) c.index-head.ensures 0 in
     let count : c.index-count.result.now ≡ get_or c.self.inside.sizes.items (first_at c.self.inside.firsts.items c.args.at.index) 0 =
     get_or_read c.self.inside.sizes.items _ _ (omega (arith, under, s.units.sizes_len)) (rw head at c.index-count.ensures) 0 in
-    rw (← c.self.view_is, head, count) (starts c.self.invariant frame held c.requires.own c.in_default.not-Marking _ (rw (c.deref.ensures.value, head, count) at c.list_unit.ensures))
-
-pub index-index-requires : goal.index-index-requires
-index-index-requires g c = let r = c.loop-left.invariant.room in omega (arith, c.loop-left-test.true, c.loop-left.self-inside.work.ok.0)
+    rw (← c.self.view_is, head, count) (starts c.self.invariant frame held c.requires.own c.in_default.not-Marking _ _ (rw (c.deref.ensures.value, head, count) at c.list_unit.ensures) (room c.self.invariant frame held c.requires.own))
 
 pub named-requires : goal.named-requires
 named-requires g c =
     let i = c.loop-left.invariant in
     let more : 1 < c.loop-left.left = omega (arith, c.loop-left-test.true) in
-    let index : c.index-index.result.now ≡ get_or c.loop-left.self-inside.work.items (c.loop-left.left - 1) 0 =
-    get_or_read c.loop-left.self-inside.work.items _ _ (let r = i.room in omega arith) c.index-index.ensures 0 in
-    rw (c.deref-in-loop-left.ensures.value, index, last_listed i more) (last_named i more)
+    rw (c.deref-in-loop-left.ensures.value, last_listed i more) (last_named i more)
 
 pub loop-left-preserved : goal.loop-left-preserved
 loop-left-preserved g c =
     let i = c.loop-left.invariant in
     let more : 1 < c.loop-left.left = omega (arith, c.loop-left-test.true) in
-    let index : c.index-index.result.now ≡ get_or c.loop-left.self-inside.work.items (c.loop-left.left - 1) 0 =
-    get_or_read c.loop-left.self-inside.work.items _ _ (let r = i.room in omega arith) c.index-index.ensures 0 in
-    let to = index ∙ last_listed i more in
+    let to = last_listed i more in
     goes_on i more _ _ _ _ (rw (c.deref-in-loop-left.ensures.value, to) at c.named.ensures) c.loose.ensures (rw to at c.loosen.ensures.firsts) (rw to at c.loosen.ensures.sizes)
 
 pub invariant_of-self-2 : goal.invariant_of-self-2

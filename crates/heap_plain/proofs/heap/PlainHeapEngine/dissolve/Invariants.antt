@@ -3,13 +3,13 @@ use Rattle.heap_plain.specs.Parting.{IsParting}
 use Rattle.heap_plain.proofs.heap.PlainHeapEngine.dissolve.Given as goal
 
 abbrev pub invariant-loop-left : goal.invariant-loop-left
-invariant-loop-left g l = IsParting g.S.Shape.sizes l.fn.self l.lane l.at.name l.head l.count l.left (record {
+invariant-loop-left g l = IsParting g.S.Shape.sizes l.fn.self l.lane l.at.name l.head l.count l.left l.members (record {
   gate = record { phase = l.self-inside.phase; frames = l.self-inside.frames.items };
   objects = record { names = l.self-inside.names.items; firsts = l.self-inside.firsts.items; sizes = l.self-inside.sizes.items; next = l.self-inside.next.items; lives = l.self-inside.lives.items };
   rows = record { kinds = l.self-inside.kinds.items; targets = l.self-inside.targets.items; plains = l.self-inside.plains.items };
   roots = l.self-inside.roots.items;
   garbage = l.self-inside.garbage.items;
-  colours = record { marked = l.self-inside.marked.items; work = l.self-inside.work.items; scanned = l.self-inside.scanned; pushed = l.self-inside.pushed };
+  colours = l.self-inside.colours;
   stock = record { free = l.self-inside.free.items; spare = l.self-inside.spare.items; made = l.self-inside.made.items };
   ends =
       record {

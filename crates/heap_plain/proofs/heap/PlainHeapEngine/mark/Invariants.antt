@@ -5,14 +5,14 @@ use Rattle.heap_plain.proofs.heap.PlainHeapEngine.mark.Given as goal
 
 abbrev pub invariant-loop-self : goal.invariant-loop-self
 invariant-loop-self g l = record {
-  small : l.scanned ≤ 1024 * l.self-inside.scanned;
+  small : l.scanned ≤ 1024 * l.self-inside.colours.scanned;
   slicing : IsSlicing g.S.Shape.sizes l.fn.self l.marker l.budget l.scanned (record {
     gate = record { phase = l.self-inside.phase; frames = l.self-inside.frames.items };
     objects = record { names = l.self-inside.names.items; firsts = l.self-inside.firsts.items; sizes = l.self-inside.sizes.items; next = l.self-inside.next.items; lives = l.self-inside.lives.items };
     rows = record { kinds = l.self-inside.kinds.items; targets = l.self-inside.targets.items; plains = l.self-inside.plains.items };
     roots = l.self-inside.roots.items;
     garbage = l.self-inside.garbage.items;
-    colours = record { marked = l.self-inside.marked.items; work = l.self-inside.work.items; scanned = l.self-inside.scanned; pushed = l.self-inside.pushed };
+    colours = l.self-inside.colours;
     stock = record { free = l.self-inside.free.items; spare = l.self-inside.spare.items; made = l.self-inside.made.items };
     ends =
         record {
@@ -27,4 +27,4 @@ invariant-loop-self g l = record {
 }
 
 abbrev pub decreases-loop-self : goal.decreases-loop-self
-decreases-loop-self g l = item_count g.S.Shape.sizes - l.self-inside.scanned
+decreases-loop-self g l = item_count g.S.Shape.sizes - l.self-inside.colours.scanned

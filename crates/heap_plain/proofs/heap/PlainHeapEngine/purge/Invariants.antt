@@ -11,7 +11,7 @@ invariant-loop-steps g l = record {
     rows = record { kinds = l.self-inside.kinds.items; targets = l.self-inside.targets.items; plains = l.self-inside.plains.items };
     roots = l.self-inside.roots.items;
     garbage = l.self-inside.garbage.items;
-    colours = record { marked = l.self-inside.marked.items; work = l.self-inside.work.items; scanned = l.self-inside.scanned; pushed = l.self-inside.pushed };
+    colours = l.self-inside.colours;
     stock = record { free = l.self-inside.free.items; spare = l.self-inside.spare.items; made = l.self-inside.made.items };
     ends =
         record {

@@ -5,22 +5,16 @@ use Rattle.heap_plain.proofs.Resting.{keeps}
 use Rattle.heap_plain.proofs.StoreSteps.{ref_below, target_place, target_named, stored_index, stored_room, writes}
 use Rattle.heap_plain.proofs.heap.PlainHeapEngine.write_ref.Goals as goal
 
-pub shade_target-self-inside-requires-clause-index : goal.shade_target-self-inside-requires-clause-index
-shade_target-self-inside-requires-clause-index g c =
+pub shade_target-requires : goal.shade_target-requires
+shade_target-requires g c =
     let frame = rw (← c.self.view_is) at c.requires.frame in
     let held = rw (← c.self.view_is) at c.requires.at in
     let to = rw (← c.self.view_is) at c.requires.to in
-    rw c.deref.ensures.value (stored_index c.self.invariant frame held c.args.to to)
-
-pub shade_target-self-inside-requires-clause-heads : goal.shade_target-self-inside-requires-clause-heads
-shade_target-self-inside-requires-clause-heads g c = rw c.deref.ensures.value (λ i. omega (arith, c.self.invariant.shows.units.in_range i, c.self.invariant.shows.work.marked_len))
-
-pub shade_target-self-inside-requires-clause-room : goal.shade_target-self-inside-requires-clause-room
-shade_target-self-inside-requires-clause-room g c =
-    let frame = rw (← c.self.view_is) at c.requires.frame in
-    let held = rw (← c.self.view_is) at c.requires.at in
-    let to = rw (← c.self.view_is) at c.requires.to in
-    rw c.deref.ensures.value (stored_room c.self.invariant frame held c.args.to to)
+    rw c.deref.ensures.value (record {
+      index = stored_index c.self.invariant frame held c.args.to to;
+      heads = λ i. omega (arith, c.self.invariant.shows.units.in_range i, c.self.invariant.shows.marked_len);
+      room = stored_room c.self.invariant frame held c.args.to to;
+    })
 
 pub index-requires : goal.index-requires
 index-requires g c =
@@ -61,7 +55,7 @@ invariant_of-self g c =
     let cell : c.index.result.now ≡ target_at g.S.Shape.sizes.slots c.self.inside.targets.items c.args.at.index c.args.slot =
     get_or_read c.self.inside.targets.items _ _ place (rw (c.SLOTS.ensures, g.S.Shape.constants.slots) at c.index.ensures) None in
     let refers = rw (c.deref-2.ensures.value, cell) at c.referred-old.ensures in
-    let done = writes c.self.invariant frame held c.args.slot slot _ refers c.args.to to (rw c.deref.ensures.value at c.shade_target-self-inside.ensures) in
+    let done = writes c.self.invariant frame held c.args.slot slot _ refers c.args.to to (rw c.deref.ensures.value at c.shade_target.ensures) in
     rw (c.write_ref.ensures, c.index_of.ensures, c.name_of.ensures, c.name_of-2.ensures, c.SLOTS.ensures, g.S.Shape.constants.slots) done.done.plain
 
 pub returns-clause-entries : goal.returns-clause-entries
@@ -74,7 +68,7 @@ returns-clause-entries g c =
     let cell : c.index.result.now ≡ target_at g.S.Shape.sizes.slots c.self.inside.targets.items c.args.at.index c.args.slot =
     get_or_read c.self.inside.targets.items _ _ place (rw (c.SLOTS.ensures, g.S.Shape.constants.slots) at c.index.ensures) None in
     let refers = rw (c.deref-2.ensures.value, cell) at c.referred-old.ensures in
-    let done = writes c.self.invariant frame held c.args.slot slot _ refers c.args.to to (rw c.deref.ensures.value at c.shade_target-self-inside.ensures) in
+    let done = writes c.self.invariant frame held c.args.slot slot _ refers c.args.to to (rw c.deref.ensures.value at c.shade_target.ensures) in
     rw (← c.self.view_is, c.write_ref.ensures, c.name_of.ensures, c.name_of-2.ensures) done.done.entries
 
 pub returns-clause-given : goal.returns-clause-given
@@ -87,7 +81,7 @@ returns-clause-given g c =
     let cell : c.index.result.now ≡ target_at g.S.Shape.sizes.slots c.self.inside.targets.items c.args.at.index c.args.slot =
     get_or_read c.self.inside.targets.items _ _ place (rw (c.SLOTS.ensures, g.S.Shape.constants.slots) at c.index.ensures) None in
     let refers = rw (c.deref-2.ensures.value, cell) at c.referred-old.ensures in
-    let done = writes c.self.invariant frame held c.args.slot slot _ refers c.args.to to (rw c.deref.ensures.value at c.shade_target-self-inside.ensures) in
+    let done = writes c.self.invariant frame held c.args.slot slot _ refers c.args.to to (rw c.deref.ensures.value at c.shade_target.ensures) in
     rw (c.write_ref.ensures, c.name_of.ensures, c.name_of-2.ensures) done.given
 
 pub returns-clause-held : goal.returns-clause-held
