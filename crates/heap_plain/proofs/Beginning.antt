@@ -1,10 +1,10 @@
 -- An empty world.
-use Rattle.std.proofs.Common.{◌≡◌, ◌≢◌, ℕ, ◌+◌, ◌-◌, ◌*◌, ◌<◌, ◌≤◌, true, false, [], get_or, replicate, refl, sym, subst, ap, ◌∙◌, arith, Option, Some, None}
+use Rattle.std.proofs.Common.{◌≡◌, ◌≢◌, ℕ, ◌+◌, ◌-◌, ◌*◌, ◌<◌, ◌≤◌, zero, suc, true, false, List, [], ◌∷◌, length, length-append, get_or, replicate, refl, sym, subst, ap, ◌∙◌, arith, Option, Some, None}
 use Rattle.std.proofs.Math.Nat.{mul-le-mul}
 use Rattle.std.proofs.Math.Logic.{dite}
-use Rattle.std.proofs.Math.Decide.{dec_le}
+use Rattle.std.proofs.Math.Decide.{ℕ_discrete, dec_le}
 use Rattle.std.proofs.Math.Nat.{lt_of_not-le}
-use Rattle.std.proofs.lemmas.List.{get_or-replicate, get_or_past, length-replicate}
+use Rattle.std.proofs.lemmas.List.{get_or_append_left, get_or-append_right, get_or-replicate, get_or_past, length-replicate}
 use Rattle.std.proofs.lemmas.List.Folds.{sum_by-replicate}
 use Rattle.world_model.specs.Sizes.{Sizes, IsLawful, item_count}
 use Rattle.world_model.proofs.Queues.{queue_start}
@@ -13,12 +13,12 @@ use Rattle.heap_plain.specs.Types.{Name, Kind, Idle}
 use Rattle.heap_plain.specs.declared.life.Life.{Life}
 use Rattle.heap_plain.specs.declared.life.Life.TheVariants.{Free, Live}
 use Rattle.heap_plain.specs.Parts.{Parts, Lists, name_at, life_at, no_kind, target_at, is_gone}
-use Rattle.heap_plain.specs.Stacks.{full_stacks}
+use Rattle.heap_plain.specs.Stocked.{Stocked, no_stock, rising, full_stocks}
 use Rattle.heap_plain.specs.Roots.{rooted_at}
-use Rattle.heap_plain.specs.Stocking.{FreeShows, free_at, spare_at}
+use Rattle.heap_plain.specs.Stocking.{LaneShows, FreeShows}
 use Rattle.heap_plain.specs.Destroying.{gone_world}
 use Rattle.heap_plain.specs.Plain.{IsPlain}
-use Rattle.heap_plain.proofs.Stacking.{length-full_stacks, get_or-full_stacks}
+use Rattle.heap_plain.proofs.Picking.{length-rising, rising_range, range_rising, rising_once}
 
 -- the vectors of a new heap
 abbrev pub new_parts : ℕ → ℕ → ℕ → Parts
@@ -36,7 +36,7 @@ new_parts lanes quota slots = record {
   roots = replicate (lanes * quota) false;
   garbage = replicate (lanes * quota) false;
   colours = record { marked = replicate (lanes * quota) false; listed = []; scanned = 0 };
-  stock = record { free = full_stacks quota lanes; spare = replicate lanes quota; made = replicate lanes 0 };
+  stock = record { stocks = full_stocks quota lanes; made = replicate lanes 0 };
   ends = record {
     left = 0;
     swept = 0;
@@ -71,31 +71,35 @@ none_gone n i e = let free : life_at (replicate n Free) i ≡ Free = same_everyw
 some_items : (z : Sizes) → IsLawful z → 0 < item_count z
 some_items z lawful = omega (arith, mul-le-mul lawful.some_lanes lawful.some_quota)
 
-spare_all : (z : Sizes) (lane : ℕ) → lane < z.lanes → spare_at (replicate z.lanes z.quota) lane ≡ z.quota
-spare_all z lane h = get_or-replicate z.lanes lane z.quota 0 h
+length-full_stocks : (quota lanes : ℕ) → length (full_stocks quota lanes) ≡ lanes
+length-full_stocks quota zero = refl
+length-full_stocks quota (suc lanes) = omega (arith, length-append (full_stocks quota lanes) (record { room = quota; free = rising (lanes * quota) quota } ∷ []), length-full_stocks quota lanes)
+
+-- the stock of a lane among full ones
+stock_at : (quota lanes lane : ℕ) → lane < lanes → get_or (full_stocks quota lanes) lane no_stock ≡ record { room = quota; free = rising (lane * quota) quota }
+stock_at quota zero lane h = absurd (omega arith)
+stock_at quota (suc lanes) lane h = dite (ℕ_discrete lane lanes)
+    (λ (e : lane ≡ lanes).
+    let last : List Stocked = record { room = quota; free = rising (lanes * quota) quota } ∷ [] in
+    get_or-append_right (full_stocks quota lanes) last lanes lane no_stock (length-full_stocks quota lanes) (omega arith)
+    ∙ ap (λ (k : ℕ). get_or last k no_stock) (let none : lane - lanes ≡ 0 = omega arith in none)
+    ∙ ap (λ (k : ℕ). record { room = quota; free = rising (k * quota) quota }) (sym e))
+    (λ (ne : lane ≢ lanes). get_or_append_left (full_stocks quota lanes) _ no_stock lane (omega (arith, length-full_stocks quota lanes)) ∙ stock_at quota lanes lane (omega arith))
 
 -- all indexes are free
-all_free : (z : Sizes) → FreeShows z (replicate (item_count z) None) (replicate (item_count z) Free) (full_stacks z.quota z.lanes) (replicate z.lanes z.quota) (λ lane. 0)
+all_free : (z : Sizes) → FreeShows z (replicate (item_count z) None) (replicate (item_count z) Free) (full_stocks z.quota z.lanes) (λ lane. 0)
 all_free z = record {
-  free_len = length-full_stacks z.quota z.lanes;
-  spare_len = length-replicate _ _;
-  of_lane = λ lane k h b. let t = place lane k h b in let less = below lane k h b in record { low = omega arith; high = omega arith };
-  unused = λ lane k h b. same_everywhere (item_count z) _ Free;
-  once = λ lane j k h a b e. let t = place lane j h a in let u = place lane k h b in let x = below lane j h a in let y = below lane k h b in omega arith;
-  all = λ lane i h o e.
-      let k : ℕ = z.quota - 1 - (i - lane * z.quota) in
-      let less : k < z.quota = omega (arith, o.low, o.high) in
-      let some : k < spare_at (replicate z.lanes z.quota) lane = omega (arith, spare_all z lane h) in
-      (k, some, place lane k h some ∙ omega (arith, o.low, o.high));
+  lanes = length-full_stocks z.quota z.lanes;
+  each = λ lane b. subst (λ (s : Stocked). LaneShows z (replicate (item_count z) Free) lane s 0) (sym (stock_at z.quota z.lanes lane b)) record {
+    room = refl;
+    of_lane = λ i a. let t = rising_range (lane * z.quota) z.quota i a in record { low = t.0; high = t.1 };
+    unused = λ i a. same_everywhere (item_count z) i Free;
+    once = rising_once (lane * z.quota) z.quota;
+    all = λ i o e. range_rising (lane * z.quota) z.quota i o.low o.high;
+    count = omega (arith, length-rising (lane * z.quota) z.quota);
+  };
   nameless = λ i e. same_everywhere (item_count z) i None;
-  count = λ lane h. let t = spare_all z lane h in omega arith;
 }
-  where
-    below : (lane k : ℕ) → lane < z.lanes → k < spare_at (replicate z.lanes z.quota) lane → k < z.quota
-    below lane k h b = omega (arith, spare_all z lane h)
-
-    place : (lane k : ℕ) → lane < z.lanes → k < spare_at (replicate z.lanes z.quota) lane → free_at z (full_stacks z.quota z.lanes) lane k ≡ lane * z.quota + (z.quota - 1 - k)
-    place lane k h b = get_or-full_stacks z.quota z.lanes lane k 0 h (below lane k h b)
 
 begins : (z : Sizes) → IsLawful z → IsPlain z (new_parts z.lanes z.quota z.slots) []
 begins z lawful = record {

@@ -35,7 +35,7 @@ use Rattle.heap_plain.specs.Units.{UnitsShow, StandsAt, LivesAt}
 use Rattle.heap_plain.specs.Roots.{RootsShow, rooted_at}
 use Rattle.heap_plain.specs.Cells.{CellsShow}
 use Rattle.heap_plain.specs.Painted.{Painted, grey_of}
-use Rattle.heap_plain.specs.Stocking.{FreeShows, free_at}
+use Rattle.heap_plain.specs.Stocking.{FreeShows}
 use Rattle.heap_plain.specs.Destroying.{RemovedShow, removal_of, removal_at, GoneShow, LiesAt, at_end}
 use Rattle.heap_plain.specs.Plain.{Shows, IsPlain}
 use Rattle.heap_plain.proofs.GarbageSteps.{garbage_fewer}
@@ -44,6 +44,7 @@ use Rattle.heap_plain.proofs.Counting.{occupied_next, count_all}
 use Rattle.heap_plain.proofs.Entries.{Done, does}
 use Rattle.heap_plain.proofs.Standing.{lives_at, lives_in}
 use Rattle.heap_plain.proofs.Cells.{cells_less}
+use Rattle.heap_plain.proofs.Restaging.{free_lives}
 use Rattle.heap_plain.proofs.NewNames.{members_among}
 use Rattle.heap_plain.proofs.BeginSteps.{none_of_none}
 use Rattle.heap_plain.proofs.SliceSteps.{filter_none, grey_empty}
@@ -412,17 +413,8 @@ module _ {z : Sizes} {p : Parts} {h : List Entry} {lives : List Life} (was : IsP
       go Begun b is e = absurd cc
       go Finished b is e = absurd cc
 
-  free_kept : FreeShows z p.names lives p.free p.spare (occupied v)
-  free_kept = record {
-    free_len = s.free.free_len;
-    spare_len = s.free.spare_len;
-    of_lane = s.free.of_lane;
-    unused = λ lane k b lt. stays_free (free_at z p.free lane k) (s.free.unused lane k b lt);
-    once = s.free.once;
-    all = λ lane i b o e. s.free.all lane i b o (was_free i e);
-    nameless = λ i e. s.free.nameless i (was_free i e);
-    count = λ lane b. omega (arith, s.free.count lane b, occupied_next z h done_entry was.legal may_commit lane);
-  }
+  free_kept : FreeShows z p.names lives p.stocks (occupied v)
+  free_kept = free_lives stays_free was_free (λ lane. omega (arith, occupied_next z h done_entry was.legal may_commit lane)) s.free
 
   pub commits : Done z
       (record p {

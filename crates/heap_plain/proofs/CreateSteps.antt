@@ -1,5 +1,5 @@
 -- Making a unit.
-use Rattle.std.proofs.Common.{◌≡◌, ◌≢◌, ℕ, ◌+◌, ◌-◌, ◌*◌, ◌<◌, ◌≤◌, ◌==◌, ◌||◌, ◌&&◌, not, refl, sym, subst, ap, ◌∙◌, inl, inr, arith, Bool, true, false, List, [], ◌∷◌, ◌++◌, length, length-append, get_or, ◌⊎◌, count_by, append-nil, slice_get, Option, Some, None}
+use Rattle.std.proofs.Common.{◌≡◌, ◌≢◌, ℕ, ◌+◌, ◌-◌, ◌<◌, ◌≤◌, ◌==◌, ◌||◌, ◌&&◌, not, refl, sym, subst, ap, ◌∙◌, inl, inr, arith, Bool, true, false, List, [], ◌∷◌, ◌++◌, length, length-append, get_or, ◌⊎◌, count_by, append-nil, slice_get, Option, Some, None}
 use Rattle.std.specs.List.{list_any, list_all}
 use Rattle.std.proofs.Math.ListN.{set}
 use Rattle.std.proofs.Math.Logic.{dite}
@@ -28,13 +28,13 @@ use Rattle.heap_plain.specs.declared.life.Life.TheVariants.{Free, Live}
 use Rattle.heap_plain.specs.Parts.{Parts, Objects, Lists, name_at, life_at, first_at, next_at, kind_at, target_at, plain_at, is_gone, stage_of, Holds}
 use Rattle.heap_plain.specs.Sweeping.{removed_name}
 use Rattle.heap_plain.specs.Filling.{FilledAt, RowsFilled}
-use Rattle.heap_plain.specs.Stacks.{popped}
 use Rattle.heap_plain.specs.Units.{NamesShow, IsPlace, UnitsShow, StandsAt, LivesAt, AreLinked}
 use Rattle.heap_plain.specs.Roots.{RootsShow, rooted_at, GarbageShow}
 use Rattle.heap_plain.specs.Cells.{KindsShow, CellsShow, Aims}
 use Rattle.heap_plain.specs.Painted.{grey_of}
 use Rattle.heap_plain.specs.Colouring.{MarksShow}
-use Rattle.heap_plain.specs.Stocking.{FreeShows, spare_at}
+use Rattle.heap_plain.specs.Stocked.{no_stock, free_of, taken, popped}
+use Rattle.heap_plain.specs.Stocking.{FreeShows}
 use Rattle.heap_plain.specs.Destroying.{RemovedShow, GoneShow, LiesAt}
 use Rattle.heap_plain.specs.Plain.{Shows, IsPlain}
 use Rattle.heap_plain.proofs.WorldFacts.{at_set, set_at_other, any_same}
@@ -60,15 +60,15 @@ pub record Creation (z : Sizes) (p : Parts) (h : List Entry) (l m : ℕ) (more :
   pub few : length more ≤ 1024
   pub lawful : list_all (is_lawful z) more ≡ true
   pub names_left : m + length more ≤ z.names
-  pub room : length more ≤ spare_at p.spare l
-  pub by_name : FilledAt p.names ns (popped p.free (l * z.quota + spare_at p.spare l)) (length more) (λ k. Some (record { lane = l; count = m + 1 + k }))
-  pub by_first : FilledAt p.firsts fs (popped p.free (l * z.quota + spare_at p.spare l)) (length more) (λ k. popped p.free (l * z.quota + spare_at p.spare l) 0)
-  pub by_life : FilledAt p.lives ls (popped p.free (l * z.quota + spare_at p.spare l)) (length more) (λ k. Live)
-  pub by_kind : FilledAt p.kinds ks (popped p.free (l * z.quota + spare_at p.spare l)) (length more) (kind_at more)
-  pub by_target : RowsFilled p.targets ts (popped p.free (l * z.quota + spare_at p.spare l)) (length more) z.slots None
-  pub by_plain : RowsFilled p.plains ps (popped p.free (l * z.quota + spare_at p.spare l)) (length more) z.slots 0
-  pub by_next : FilledAt p.next nx (popped p.free (l * z.quota + spare_at p.spare l)) (length more - 1) (λ k. popped p.free (l * z.quota + spare_at p.spare l) (k + 1))
-  pub by_garbage : FilledAt p.garbage gs (popped p.free (l * z.quota + spare_at p.spare l)) (length more) (λ k. false)
+  pub room : length more ≤ length (free_of p.stocks l)
+  pub by_name : FilledAt p.names ns (popped (free_of p.stocks l)) (length more) (λ k. Some (record { lane = l; count = m + 1 + k }))
+  pub by_first : FilledAt p.firsts fs (popped (free_of p.stocks l)) (length more) (λ k. popped (free_of p.stocks l) 0)
+  pub by_life : FilledAt p.lives ls (popped (free_of p.stocks l)) (length more) (λ k. Live)
+  pub by_kind : FilledAt p.kinds ks (popped (free_of p.stocks l)) (length more) (kind_at more)
+  pub by_target : RowsFilled p.targets ts (popped (free_of p.stocks l)) (length more) z.slots None
+  pub by_plain : RowsFilled p.plains ps (popped (free_of p.stocks l)) (length more) z.slots 0
+  pub by_next : FilledAt p.next nx (popped (free_of p.stocks l)) (length more - 1) (λ k. popped (free_of p.stocks l) (k + 1))
+  pub by_garbage : FilledAt p.garbage gs (popped (free_of p.stocks l)) (length more) (λ k. false)
 
 module _ {z : Sizes} {p : Parts} {h : List Entry} {l m : ℕ} {more : List Kind} {ns : List (Option Name)} {fs nx : List ℕ} {ks : List Kind}
     {ts : List (Option ℕ)} {ps : List ℕ} {ls : List Life} {gs : List Bool} (new : Creation z p h l m more ns fs nx ks ts ps ls gs) where
@@ -76,7 +76,7 @@ module _ {z : Sizes} {p : Parts} {h : List Entry} {l m : ℕ} {more : List Kind}
   s = new.was.shows
 
   abbrev at : ℕ → ℕ
-  at = popped p.free (l * z.quota + spare_at p.spare l)
+  at = popped (free_of p.stocks l)
 
   -- the index of the new unit
   abbrev first : ℕ
@@ -319,7 +319,7 @@ module _ {z : Sizes} {p : Parts} {h : List Entry} {l m : ℕ} {more : List Kind}
   all_members : members new_units ≡ members (after h).units ++ unit
   all_members = flat_map-append (λ (u : List Name). u) (after h).units (unit ∷ []) ∙ ap (λ (x : List Name). members (after h).units ++ x) (append-nil unit)
 
-  free_new : FreeShows z ns ls p.free (set p.spare l (spare_at p.spare l - length more)) (occupied (with_unit (after h) l more (m + 1)))
+  free_new : FreeShows z ns ls (set p.stocks l (taken (get_or p.stocks l no_stock) (length more))) (occupied (with_unit (after h) l more (m + 1)))
   free_new = free_popped s.free l (length more) new.frame.in_range new.room ns ls _ new.by_life name_out (λ k.
       let live : count_by (λ n. n.lane == k) (members new_units)
       ≡ count_by (λ n. n.lane == k) (members (after h).units) + count_by (λ n. n.lane == k) unit =
@@ -355,7 +355,7 @@ module _ {z : Sizes} {p : Parts} {h : List Entry} {l m : ℕ} {more : List Kind}
       lawful = new.lawful;
       next = ap (λ k. k + 1) new.is;
       names = omega arith;
-      room = omega (arith, s.free.count l new.frame.in_range);
+      room = omega (arith, (s.free.each l new.frame.in_range).count);
     };
   }
 
@@ -593,7 +593,7 @@ module _ {z : Sizes} {p : Parts} {h : List Entry} {l m : ℕ} {more : List Kind}
         roots = p.roots;
         garbage = gs;
         colours = record (p.colours) { marked = marked' };
-        stock = record { free = p.free; spare = set p.spare l (spare_at p.spare l - length more); made = set p.made l (m + length more) };
+        stock = record { stocks = set p.stocks l (taken (get_or p.stocks l no_stock) (length more)); made = set p.made l (m + length more) };
         ends = p.ends;
       }) h (h ++ made_entry ∷ []) (Lane l) (act.Make more (m + 1))
   creates = does (Lane l) (act.Make more (m + 1)) (act.Make more (m + 1) ∷ []) new.was (refl, tt) (may_make, tt) record {

@@ -30,7 +30,7 @@ use Rattle.heap_plain.proofs.Fillings.{from_start}
 use Rattle.heap_plain.proofs.Resting.{in_open, rests, keeps}
 use Rattle.heap_plain.proofs.Entries.{Done, does}
 use Rattle.heap_plain.proofs.Listings.{linked_member}
-use Rattle.heap_plain.proofs.Restaging.{lives_same, free_lives}
+use Rattle.heap_plain.proofs.Restaging.{free_lives}
 use Rattle.heap_plain.proofs.Standing.{member_at, name_below}
 use Rattle.heap_plain.proofs.PartSteps.{named_last, front_size, units_left, gone_left, stands_front}
 use Rattle.heap_plain.proofs.RootSteps as root
@@ -170,7 +170,7 @@ module _ {z : Sizes} {old : Shown} {lane : ℕ} {at : Name} {head count left : �
       roots = k.roots;
       garbage = k.garbage;
       colours = record { marked_len = k.marked_len; idle = k.idle; marks = λ m. absurd (i.unmarked m) };
-      stock = record { made = k.made; free = free_lives (lives_same p.lives) (λ l. let t = occupied_next z h e i.legal may_leave l in omega arith) k.free };
+      stock = record { made = k.made; free = free_lives (λ i f. f) (λ i f. f) (λ l. let t = occupied_next z h e i.legal may_leave l in omega arith) k.free };
       ends = record {
         removed = k.removed;
         gone =

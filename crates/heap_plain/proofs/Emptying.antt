@@ -1,5 +1,5 @@
 -- The objects of a unit are taken off their indexes, one after the other.
-use Rattle.std.proofs.Common.{◌≡◌, ◌≢◌, ℕ, ◌+◌, ◌*◌, ◌<◌, ◌^◌, ◌==◌, ◌||◌, refl, sym, subst, ap, ◌∙◌, inl, inr, zero, suc, arith, Bool, cond, true, false, List, [], ◌∷◌, length, count_by, Option, Some, None, is_some, unwrap_or}
+use Rattle.std.proofs.Common.{◌≡◌, ◌≢◌, ℕ, ◌+◌, ◌<◌, ◌==◌, ◌||◌, refl, sym, subst, ap, ◌∙◌, inl, inr, zero, suc, arith, Bool, cond, true, false, List, get_or, [], ◌∷◌, length, count_by, Option, Some, None, is_some, unwrap_or}
 use Rattle.std.proofs.Math.ListN.{set}
 use Rattle.std.proofs.Math.Logic.{dite}
 use Rattle.std.proofs.Math.Decide.{ℕ_discrete}
@@ -17,29 +17,29 @@ use Rattle.heap_plain.specs.Purging.{Stocks, lane_at, give, give_all, CanGive}
 use Rattle.world_model.specs.Engines.{IsOfLane}
 use Rattle.heap_plain.specs.Lists.{Distinct}
 use Rattle.heap_plain.specs.Units.{AreLinked}
-use Rattle.heap_plain.specs.Stocking.{FreeShows, spare_at}
+use Rattle.heap_plain.specs.Stocked.{no_stock, free_of, given}
+use Rattle.heap_plain.specs.Stocking.{FreeShows}
 use Rattle.heap_plain.proofs.WorldFacts.{differs}
-use Rattle.heap_plain.proofs.Popping.{lane_below, lane_end}
-use Rattle.heap_plain.proofs.Pushing.{free_pushed, few, inside}
+use Rattle.heap_plain.proofs.Popping.{lane_below}
+use Rattle.heap_plain.proofs.Pushing.{free_pushed, few}
 use Rattle.heap_plain.proofs.Listings.{chained_next}
-use Rattle.heap_plain.proofs.Restaging.{lives_same, free_lives}
+use Rattle.heap_plain.proofs.Restaging.{free_lives}
 
-give_next : (quota : ℕ) (s : Stocks) (links : List ℕ) (i count : ℕ) → give_all quota s links i (suc count) ≡ give_all quota (give quota s i) links (next_at links i) count
-give_next quota s links i zero = refl
-give_next quota s links i (suc count) = λ t. give quota (give_next quota s links i count t) (chained_next links i count t)
+give_next : (s : Stocks) (links : List ℕ) (i count : ℕ) → give_all s links i (suc count) ≡ give_all (give s i) links (next_at links i) count
+give_next s links i zero = refl
+give_next s links i (suc count) = λ t. give (give_next s links i count t) (chained_next links i count t)
 
--- an index goes on the stack of this lane
-abbrev give_by : ℕ → Stocks → ℕ → ℕ → Stocks
-give_by quota s i l = record {
+-- an index is given back to this lane
+abbrev give_by : Stocks → ℕ → ℕ → Stocks
+give_by s i l = record {
   names = set s.names i None;
   lives = set s.lives i Free;
-  free = set s.free (l * quota + spare_at s.spare l) i;
-  spare = set s.spare l (spare_at s.spare l + 1);
+  stocks = set s.stocks l (given (get_or s.stocks l no_stock) i);
 }
 
 -- Before a unit's members from one on are taken off. The removals are theirs and others.
 pub record Emptying (z : Sizes) (s : Stocks) (links : List ℕ) (i : ℕ) (v : List Name) (used : ℕ → ℕ) : Type 0 where
-  pub free : FreeShows z s.names s.lives s.free s.spare (λ lane. used lane + count_by (λ n. n.lane == lane) v)
+  pub free : FreeShows z s.names s.lives s.stocks (λ lane. used lane + count_by (λ n. n.lane == lane) v)
   pub by_name : length s.names ≡ item_count z
   pub by_life : length s.lives ≡ item_count z
   pub linked : AreLinked s.names links i v
@@ -50,7 +50,7 @@ pub record Emptying (z : Sizes) (s : Stocks) (links : List ℕ) (i : ℕ) (v : L
 
 -- After that.
 pub record Emptied (z : Sizes) (s t : Stocks) (v : List Name) (used : ℕ → ℕ) : Type 0 where
-  pub free : FreeShows z t.names t.lives t.free t.spare used
+  pub free : FreeShows z t.names t.lives t.stocks used
   pub by_name : length t.names ≡ item_count z
   pub by_life : length t.lives ≡ item_count z
   pub out : (j : ℕ) (n : Name) → name_at s.names j ≡ Some n → has v n ≡ true → (name_at t.names j ≡ None) × (life_at t.lives j ≡ Free)
@@ -58,8 +58,8 @@ pub record Emptied (z : Sizes) (s t : Stocks) (v : List Name) (used : ℕ → �
 
 -- each of them can be given back, and what is left
 pub record Empties (z : Sizes) (s : Stocks) (links : List ℕ) (i : ℕ) (v : List Name) (used : ℕ → ℕ) : Type 0 where
-  pub can : (k : ℕ) → k < length v → CanGive z.quota (give_all z.quota s links i k) (chained links i k)
-  pub end : Emptied z s (give_all z.quota s links i (length v)) v used
+  pub can : (k : ℕ) → k < length v → CanGive (give_all s links i k) (chained links i k)
+  pub end : Emptied z s (give_all s links i (length v)) v used
 
 links_less : (names ns : List (Option Name)) (links : List ℕ) (n : Name) (u : List Name) → (Among u n → ⊥) → ((j : ℕ) (m : Name) → (n ≡ m → ⊥) → name_at names j ≡ Some m → name_at ns j ≡ Some m)
     → (i : ℕ) → AreLinked names links i u → AreLinked ns links i u
@@ -67,7 +67,7 @@ links_less names ns links n [] out keep i h = tt
 links_less names ns links n (m ∷ u) out keep i h =
     (keep i m (λ e. out (inl (sym e))) h.0, links_less names ns links n u (λ a. out (inr a)) keep (next_at links i) h.1)
 
-module _ (z : Sizes) (s : Stocks) (links : List ℕ) (i : ℕ) (n : Name) (v : List Name) (used : ℕ → ℕ) (few_items : item_count z < 2 ^ 32) (e : Emptying z s links i (n ∷ v) used) where
+module _ (z : Sizes) (s : Stocks) (links : List ℕ) (i : ℕ) (n : Name) (v : List Name) (used : ℕ → ℕ) (e : Emptying z s links i (n ∷ v) used) where
   at : name_at s.names i ≡ Some n
   at = e.linked.0
 
@@ -83,8 +83,8 @@ module _ (z : Sizes) (s : Stocks) (links : List ℕ) (i : ℕ) (n : Name) (v : L
   counts : (lane : ℕ) → used lane + count_by (λ m. m.lane == lane) (n ∷ v) ≡ used lane + count_by (λ m. m.lane == lane) v + cond (n.lane == lane) 1 0
   counts lane = let c = count-cons (λ m. m.lane == lane) n v in omega arith
 
-  next_is : give_by z.quota s i n.lane ≡ give z.quota s i
-  next_is = ap (give_by z.quota s i) (sym lane_is)
+  next_is : give_by s i n.lane ≡ give s i
+  next_is = ap (give_by s i) (sym lane_is)
 
   i_below : i < item_count z
   i_below = lane_below place.0 place.1
@@ -107,7 +107,7 @@ module _ (z : Sizes) (s : Stocks) (links : List ℕ) (i : ℕ) (n : Name) (v : L
   still : (j : ℕ) (m : Name) → (n ≡ m → ⊥) → name_at s.names j ≡ Some m → name_at (set s.names i None) j ≡ Some m
   still j m ne h = other_name j (λ same. let u : name_at s.names j ≡ name_at s.names i = ap (name_at s.names) same in let w = at in ne cc) ∙ h
 
-  emptying_next : Emptying z (give_by z.quota s i n.lane) links (next_at links i) v used
+  emptying_next : Emptying z (give_by s i n.lane) links (next_at links i) v used
   emptying_next = record {
     free = free_pushed e.free n.lane i place.0 place.1 e.by_name e.by_life gone _ counts;
     by_name = length-set s.names i None ∙ e.by_name;
@@ -119,30 +119,28 @@ module _ (z : Sizes) (s : Stocks) (links : List ℕ) (i : ℕ) (n : Name) (v : L
     gone = λ j m h a. let w = was j m h in ap is_gone (other_life j w.0) ∙ e.gone j m w.1 (or_right (same_name m n) (has v m) a);
   }
 
-  first : CanGive z.quota s i
+  first : CanGive s i
   first =
-      let room = inside e.free n.lane i place.0 place.1 e.by_name e.by_life gone _ counts in
       let short = few e.free n.lane i place.0 place.1 e.by_name e.by_life gone _ counts in
       record {
         named = ap (λ (o : Option Name). is_some o) at;
         by_name = omega (arith, i_below, e.by_name);
         by_life = omega (arith, i_below, e.by_life);
-        lane = omega (arith, lane_is, place.0, e.free.spare_len);
-        room = subst (λ (l : ℕ). l * z.quota + spare_at s.spare l < length s.free) (sym lane_is) room;
-        few = subst (λ (l : ℕ). spare_at s.spare l + 1 < 2 ^ 32) (sym lane_is) (omega (arith, short, lane_end n.lane z.lanes z.quota place.0, few_items));
+        lane = omega (arith, lane_is, place.0, e.free.lanes);
+        room = subst (λ (l : ℕ). length (free_of s.stocks l) < (get_or s.stocks l no_stock).room) (sym lane_is) short;
       }
 
-  module _ (after : Empties z (give_by z.quota s i n.lane) links (next_at links i) v used) where
-    after' : Empties z (give z.quota s i) links (next_at links i) v used
+  module _ (after : Empties z (give_by s i n.lane) links (next_at links i) v used) where
+    after' : Empties z (give s i) links (next_at links i) v used
     after' = subst (λ (t : Stocks). Empties z t links (next_at links i) v used) next_is after
 
-    can : (k : ℕ) → k < length (n ∷ v) → CanGive z.quota (give_all z.quota s links i k) (chained links i k)
+    can : (k : ℕ) → k < length (n ∷ v) → CanGive (give_all s links i k) (chained links i k)
     can zero b = first
-    can (suc k) b = subst (λ (t : Stocks). CanGive z.quota t (chained links i (suc k))) (sym (give_next z.quota s links i k))
-        (subst (λ (j : ℕ). CanGive z.quota (give_all z.quota (give z.quota s i) links (next_at links i) k) j) (sym (chained_next links i k)) (after'.can k (omega arith)))
+    can (suc k) b = subst (λ (t : Stocks). CanGive t (chained links i (suc k))) (sym (give_next s links i k))
+        (subst (λ (j : ℕ). CanGive (give_all (give s i) links (next_at links i) k) j) (sym (chained_next links i k)) (after'.can k (omega arith)))
 
-    all : Emptied z s (give_all z.quota (give z.quota s i) links (next_at links i) (length v)) (n ∷ v) used
-    all = subst (λ (t : Stocks). Emptied z s (give_all z.quota t links (next_at links i) (length v)) (n ∷ v) used) next_is record {
+    all : Emptied z s (give_all (give s i) links (next_at links i) (length v)) (n ∷ v) used
+    all = subst (λ (t : Stocks). Emptied z s (give_all t links (next_at links i) (length v)) (n ∷ v) used) next_is record {
       free = after.end.free;
       by_name = after.end.by_name;
       by_life = after.end.by_life;
@@ -157,8 +155,8 @@ module _ (z : Sizes) (s : Stocks) (links : List ℕ) (i : ℕ) (n : Name) (v : L
     }
       where
         out : (j : ℕ) (m : Name) → name_at s.names j ≡ Some m → has (n ∷ v) m ≡ true
-            → (name_at (give_all z.quota (give_by z.quota s i n.lane) links (next_at links i) (length v)).names j ≡ None)
-            × (life_at (give_all z.quota (give_by z.quota s i n.lane) links (next_at links i) (length v)).lives j ≡ Free)
+            → (name_at (give_all (give_by s i n.lane) links (next_at links i) (length v)).names j ≡ None)
+            × (life_at (give_all (give_by s i n.lane) links (next_at links i) (length v)).lives j ≡ Free)
         out j m h a = dite (ℕ_discrete j i)
             (λ (same : j ≡ i).
             let none : name_at (set s.names i None) j ≡ None = ap (name_at (set s.names i None)) same ∙ none_here in
@@ -171,13 +169,13 @@ module _ (z : Sizes) (s : Stocks) (links : List ℕ) (i : ℕ) (n : Name) (v : L
             after.end.out j m (other_name j ne ∙ h) (sym (ap (λ (b : Bool). b || has v m) other) ∙ a))
 
     empties_first : Empties z s links i (n ∷ v) used
-    empties_first = record { can = can; end = subst (λ (t : Stocks). Emptied z s t (n ∷ v) used) (sym (give_next z.quota s links i (length v))) all }
+    empties_first = record { can = can; end = subst (λ (t : Stocks). Emptied z s t (n ∷ v) used) (sym (give_next s links i (length v))) all }
 
-pub empties : (z : Sizes) (s : Stocks) (links : List ℕ) (i : ℕ) (v : List Name) (used : ℕ → ℕ) → item_count z < 2 ^ 32 → Emptying z s links i v used → Empties z s links i v used
-empties z s links i [] used few_items e = record {
+pub empties : (z : Sizes) (s : Stocks) (links : List ℕ) (i : ℕ) (v : List Name) (used : ℕ → ℕ) → Emptying z s links i v used → Empties z s links i v used
+empties z s links i [] used e = record {
   can = λ k b. absurd (omega arith);
-  end = record { free = free_lives (lives_same s.lives) (λ lane. omega arith) e.free; by_name = e.by_name; by_life = e.by_life; out = λ j n a h. absurd cc; others = λ j f. (refl, refl) };
+  end = record { free = free_lives (λ i f. f) (λ i f. f) (λ lane. omega arith) e.free; by_name = e.by_name; by_life = e.by_life; out = λ j n a h. absurd cc; others = λ j f. (refl, refl) };
 }
-empties z s links i (n ∷ v) used few_items e =
-    empties_first z s links i n v used few_items e
-    (empties z (give_by z.quota s i n.lane) links (next_at links i) v used few_items (emptying_next z s links i n v used few_items e))
+empties z s links i (n ∷ v) used e =
+    empties_first z s links i n v used e
+    (empties z (give_by s i n.lane) links (next_at links i) v used (emptying_next z s links i n v used e))

@@ -1,7 +1,5 @@
 -- The queue of destruction, as sweeps build it.
-use Rattle.std.proofs.Common.{◌≡◌, ◌≢◌, ℕ, ◌+◌, ◌<◌, ◌≤◌, ◌==◌, ◌⊎◌, refl, sym, subst, ap, ◌∙◌, inl, inr, zero, suc, arith, Bool, cond, true, false, List, [], ◌∷◌, ◌++◌, append-nil, length, filter, get_or, Option, Some}
-use Rattle.std.proofs.Math.Logic.{dite}
-use Rattle.std.proofs.Math.Decide.{ℕ_discrete}
+use Rattle.std.proofs.Common.{◌≡◌, ℕ, ◌+◌, ◌<◌, ◌≤◌, ◌==◌, ◌⊎◌, refl, sym, subst, ap, ◌∙◌, inl, inr, zero, suc, arith, Bool, cond, true, false, List, [], ◌∷◌, ◌++◌, append-nil, length, filter, get_or, Option, Some}
 use Rattle.std.proofs.lemmas.Bool.{eqb-true, eqb-false}
 use Rattle.std.proofs.lemmas.Grind.{flat_map-append}
 use Rattle.world_model.specs.Sizes.{Sizes}
@@ -15,14 +13,12 @@ use Rattle.heap_plain.specs.Types.{Name, Kind, Gathering}
 use Rattle.heap_plain.specs.declared.life.Life.{Life}
 use Rattle.heap_plain.specs.declared.life.Life.TheVariants.{Free, Live, Removed, Begun, Finished}
 use Rattle.heap_plain.specs.Parts.{Objects, name_at, life_at, first_at, is_gone, stage_of}
-use Rattle.heap_plain.specs.Stacks.{falling}
 use Rattle.heap_plain.specs.Sweeping.{removed_name, removed_names}
 use Rattle.heap_plain.specs.Listing.{chained, chain, begins, unit_at, units_at}
 use Rattle.heap_plain.specs.Lists.{Distinct}
 use Rattle.heap_plain.specs.Units.{NamesShow, UnitsShow, AreLinked}
 use Rattle.heap_plain.specs.Destroying.{RemovedShow, removal_at, GoneShow, LiesAt, AreNamed, still_there}
-use Rattle.heap_plain.proofs.WorldFacts.{no_longer}
-use Rattle.heap_plain.proofs.Stacking.{length-falling}
+use Rattle.heap_plain.proofs.MarkSteps.{few_below}
 use Rattle.heap_plain.proofs.Standing.{name_below}
 use Rattle.heap_plain.proofs.NewNames.{members_among, distinct_append}
 use Rattle.heap_plain.proofs.Listings.{linked_named, linked_member}
@@ -96,10 +92,6 @@ order_distinct units (n ∷ found) d f =
 
 -- ---- how many indexes there are
 
-falling_has : (count i : ℕ) → i < count → Among (falling 0 count) i
-falling_has zero i b = absurd (omega arith)
-falling_has (suc count) i b = dite (ℕ_discrete i count) (λ (e : i ≡ count). inl (omega arith)) (λ (ne : i ≢ count). inr (falling_has count i (omega arith)))
-
 pub distinct_at : (names : List (Option Name)) (at : List ℕ) (of : List Name) → AreNamed names at of → Distinct of → Distinct at
 distinct_at names [] [] h d = tt
 distinct_at names [] (n ∷ of) h d = absurd h
@@ -112,8 +104,7 @@ distinct_at names (i ∷ at) (n ∷ of) h d = (
 -- different objects are no more than there are indexes
 pub few_named : (names : List (Option Name)) (at : List ℕ) (of : List Name) → AreNamed names at of → Distinct of → length at ≤ length names
 few_named names at of h d =
-    let few = no_longer at (falling 0 (length names)) (distinct_at names at of h d) (λ i a. let r = named_in names at of h i a in falling_has (length names) i (name_below names i r.0 r.2)) in
-    omega (arith, length-falling 0 (length names))
+    few_below (length names) at (distinct_at names at of h d) (λ i a. let r = named_in names at of h i a in name_below names i r.0 r.2)
 
 -- ---- removed units
 

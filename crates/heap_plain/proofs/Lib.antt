@@ -1,5 +1,4 @@
 pub mod Fillings
-pub mod Stacking
 pub mod WorldFacts
 pub mod Counting
 pub mod Resting
@@ -13,6 +12,7 @@ pub mod Beginning
 pub mod Standing
 pub mod Cells
 pub mod Kinding
+pub mod Picking
 pub mod Popping
 pub mod NewNames
 pub mod CreateSteps

@@ -1,20 +1,23 @@
--- Indexes of lanes, and those that a lane's stack gives.
-use Rattle.std.proofs.Common.{◌≡◌, ◌≢◌, ℕ, ◌+◌, ◌-◌, ◌*◌, ◌<◌, ◌≤◌, ◌==◌, ◌⊎◌, inl, inr, zero, suc, suc-mul, refl, sym, ap, ◌∙◌, subst, arith, List, get_or, Option, cond, Bool, true, false}
+-- Indexes of lanes, and those that a lane takes.
+use Rattle.std.proofs.Common.{◌≡◌, ◌≢◌, ℕ, ◌+◌, ◌-◌, ◌*◌, ◌<◌, ◌≤◌, ◌==◌, ◌⊎◌, inl, inr, zero, suc, suc-mul, refl, sym, ap, ◌∙◌, subst, arith, List, length, get_or, drop, Option, cond, Bool, true, false}
 use Rattle.std.proofs.Math.ListN.{set}
 use Rattle.std.proofs.Math.Logic.{dite}
 use Rattle.std.proofs.Math.Decide.{ℕ_discrete, dec_le}
 use Rattle.std.proofs.Math.Nat.{lt_of_not-le, mul-le-mul_right}
 use Rattle.std.proofs.lemmas.Bool.{eqb-true, eqb-false}
-use Rattle.std.proofs.lemmas.List.{length-set, get_or-set_same, get_or-set_other, get_or_read}
+use Rattle.std.proofs.lemmas.List.{length-set, length-drop, get_or-set_same, get_or-set_other, get_or_read}
 use Rattle.world_model.specs.Sizes.{Sizes, item_count}
+use Rattle.world_model.proofs.ListFacts.{Among}
 use Rattle.heap_plain.specs.Types.{Name}
 use Rattle.heap_plain.specs.declared.life.Life.{Life}
 use Rattle.heap_plain.specs.declared.life.Life.TheVariants.{Free, Live}
 use Rattle.heap_plain.specs.Parts.{name_at, life_at}
 use Rattle.heap_plain.specs.Filling.{FilledAt}
-use Rattle.heap_plain.specs.Stacks.{popped, CanPop}
+use Rattle.heap_plain.specs.Stocked.{Stocked, no_stock, free_of, taken, popped, CanPop}
 use Rattle.world_model.specs.Engines.{IsOfLane}
-use Rattle.heap_plain.specs.Stocking.{FreeShows, free_at, spare_at}
+use Rattle.heap_plain.specs.Stocking.{LaneShows, FreeShows}
+use Rattle.heap_plain.proofs.MarkSteps.{distinct_drop}
+use Rattle.heap_plain.proofs.Picking.{get_or_among, among_drop, one_place, first_out, first_or}
 
 -- ---- indexes of lanes
 
@@ -53,77 +56,64 @@ where_is at (suc count) i = dite (ℕ_discrete i (at count)) (λ (e : i ≡ at c
     go ne (inl w) = inl (w.0, omega (arith, w.1), w.2)
     go ne (inr o) = inr (λ k h. dite (ℕ_discrete k count) (λ (e : k ≡ count). λ same. ne (sym same ∙ ap at e)) (λ (other : k ≢ count). o k (omega arith)))
 
+-- ---- the stock of one lane changes
+
+-- what holds of the new stock, and of those of the other lanes as they were
+pub set_each : (stocks : List Stocked) (l : ℕ) (s : Stocked) (P : ℕ → Stocked → Type 0) → l < length stocks → P l s
+    → ((k : ℕ) → k ≢ l → P k (get_or stocks k no_stock)) → (k : ℕ) → P k (get_or (set stocks l s) k no_stock)
+set_each stocks l s P inside here there k = dite (ℕ_discrete k l)
+    (λ (e : k ≡ l). subst (λ (j : ℕ). P j (get_or (set stocks l s) j no_stock)) (sym e) (subst (λ (t : Stocked). P l t) (sym (get_or-set_same stocks l s no_stock inside)) here))
+    (λ (ne : k ≢ l). subst (λ (t : Stocked). P k t) (sym (get_or-set_other stocks l k s no_stock ne)) (there k ne))
+
+pub count_own : (l n : ℕ) → cond {A = ℕ} (l == l) n 0 ≡ n
+count_own l n = go (l == l) refl
+  where
+    go : (b : Bool) → (l == l) ≡ b → cond {A = ℕ} (l == l) n 0 ≡ n
+    go true e = ap (λ (b : Bool). cond {A = ℕ} b n 0) e
+    go false e = absurd (eqb-false l l e refl)
+
+pub count_other : (l k n : ℕ) → k ≢ l → cond {A = ℕ} (l == k) n 0 ≡ 0
+count_other l k n ne = go (l == k) refl
+  where
+    go : (b : Bool) → (l == k) ≡ b → cond {A = ℕ} (l == k) n 0 ≡ 0
+    go true e = absurd (ne (sym (eqb-true l k e)))
+    go false e = ap (λ (b : Bool). cond {A = ℕ} b n 0) e
+
 -- ---- popping
 
-module _ {z : Sizes} {names : List (Option Name)} {lives : List Life} {free spare : List ℕ} {used : ℕ → ℕ} (f : FreeShows z names lives free spare used)
-    (l count : ℕ) (lane : l < z.lanes) (room : count ≤ spare_at spare l) where
-  abbrev top : ℕ
-  top = l * z.quota + spare_at spare l
+module _ {z : Sizes} {names : List (Option Name)} {lives : List Life} {stocks : List Stocked} {used : ℕ → ℕ} (f : FreeShows z names lives stocks used)
+    (l count : ℕ) (lane : l < z.lanes) (room : count ≤ length (free_of stocks l)) where
+  abbrev xs : List ℕ
+  xs = free_of stocks l
 
   abbrev at : ℕ → ℕ
-  at = popped free top
+  at = popped xs
 
-  -- the stack's place of an index that is popped
-  place : (k : ℕ) → k < count → at k ≡ free_at z free l (spare_at spare l - (k + 1))
-  place k below = let e : top - (k + 1) ≡ l * z.quota + (spare_at spare l - (k + 1)) = omega arith in ap (λ (i : ℕ). get_or free i 0) e
+  among_at : (k : ℕ) → k < count → Among xs (at k)
+  among_at k below = get_or_among xs k (omega arith)
 
   pub popped_lane : (k : ℕ) → k < count → IsOfLane z l (at k)
-  popped_lane k below = subst (λ (i : ℕ). IsOfLane z l i) (sym (place k below)) (f.of_lane l (spare_at spare l - (k + 1)) lane (omega arith))
+  popped_lane k below = (f.each l lane).of_lane (at k) (among_at k below)
 
   pub popped_free : (k : ℕ) → k < count → life_at lives (at k) ≡ Free
-  popped_free k below = ap (life_at lives) (place k below) ∙ f.unused l (spare_at spare l - (k + 1)) lane (omega arith)
+  popped_free k below = (f.each l lane).unused (at k) (among_at k below)
 
-  pub popped_once : (j k : ℕ) → j < count → k < count → at j ≡ at k → j ≡ k
-  popped_once j k a b e =
-      let same = f.once l (spare_at spare l - (j + 1)) (spare_at spare l - (k + 1)) lane (omega arith) (omega arith) (sym (place j a) ∙ e ∙ place k b) in
-      omega arith
-
-  pub can_pop : CanPop free top count (item_count z)
+  pub can_pop : CanPop xs count (item_count z)
   can_pop = record {
-    enough = omega arith;
-    room = omega (arith, lane_end l z.lanes z.quota lane, f.free_len, f.count l lane);
+    enough = room;
     places = λ k below. lane_below lane (popped_lane k below);
-    once = popped_once;
+    once = λ j k a b e. one_place xs j k (f.each l lane).once (omega arith) (omega arith) e;
   }
 
-  -- what stays on the stacks
-  abbrev spare' : List ℕ
-  spare' = set spare l (spare_at spare l - count)
-
-  own_spare : spare_at spare' l ≡ spare_at spare l - count
-  own_spare = get_or-set_same spare l (spare_at spare l - count) 0 (omega (arith, f.spare_len))
-
-  other_spare : (k : ℕ) → k ≢ l → spare_at spare' k ≡ spare_at spare k
-  other_spare k ne = get_or-set_other spare l k (spare_at spare l - count) 0 ne
-
-  was_spare : (k j : ℕ) → j < spare_at spare' k → j < spare_at spare k
-  was_spare k j less = dite (ℕ_discrete k l)
-      (λ (e : k ≡ l). let a : spare_at spare' k ≡ spare_at spare' l = ap (spare_at spare') e in let b : spare_at spare k ≡ spare_at spare l = ap (spare_at spare) e in omega (arith, own_spare))
-      (λ (ne : k ≢ l). omega (arith, other_spare k ne))
-
-  -- an index that stays is none that is popped
-  stays : (k j : ℕ) → k < z.lanes → j < spare_at spare' k → (i : ℕ) → i < count → at i ≢ free_at z free k j
-  stays k j b less i popped_one e =
-      let was = was_spare k j less in
-      let own : l ≡ k = same_lane (popped_lane i popped_one) (subst (λ (x : ℕ). IsOfLane z k x) (sym e) (f.of_lane k j b was)) in
-      let here : free_at z free k j ≡ free_at z free l j = ap (λ (x : ℕ). free_at z free x j) (sym own) in
-      let lens : spare_at spare' k ≡ spare_at spare' l = ap (spare_at spare') (sym own) in
-      let same = f.once l (spare_at spare l - (i + 1)) j lane (omega arith) (omega (arith, own_spare)) (sym (place i popped_one) ∙ e ∙ here) in
-      absurd (omega (arith, own_spare))
-
-  -- the stacks after popping, where objects live at the popped indexes
-  pub free_popped : (ns : List (Option Name)) (ls : List Life) (used' : ℕ → ℕ) → FilledAt lives ls at count (λ k. Live) → ((i : ℕ) → ((k : ℕ) → k < count → at k ≢ i) → name_at ns i ≡ name_at names i)
+  -- the stocks after popping, where objects live at the popped indexes
+  pub free_popped : (ns : List (Option Name)) (ls : List Life) (used' : ℕ → ℕ) → FilledAt lives ls at count (λ k. Live)
+      → ((i : ℕ) → ((k : ℕ) → k < count → at k ≢ i) → name_at ns i ≡ name_at names i)
       → ((k : ℕ) → used' k ≡ used k + cond (l == k) count 0)
-      → FreeShows z ns ls free spare' used'
+      → FreeShows z ns ls (set stocks l (taken (get_or stocks l no_stock) count)) used'
   free_popped ns ls used' by_life name_out counts = record {
-    free_len = f.free_len;
-    spare_len = length-set spare l (spare_at spare l - count) ∙ f.spare_len;
-    of_lane = λ k j b less. f.of_lane k j b (was_spare k j less);
-    unused = λ k j b less. by_life.outside (free_at z free k j) Free (stays k j b less) ∙ f.unused k j b (was_spare k j less);
-    once = λ k i j b x y. f.once k i j b (was_spare k i x) (was_spare k j y);
-    all = λ k i b o e. all k i b o (out i e);
+    lanes = length-set stocks l (taken (get_or stocks l no_stock) count) ∙ f.lanes;
+    each = set_each stocks l (taken (get_or stocks l no_stock) count) (λ k s. k < z.lanes → LaneShows z ls k s (used' k)) (omega (arith, f.lanes)) (λ b. own) others;
     nameless = λ i e. let o = out i e in name_out i o.0 ∙ f.nameless i o.1;
-    count = sum;
   }
     where
       -- what is free now was free, and is none that is popped
@@ -134,47 +124,53 @@ module _ {z : Sizes} {names : List (Option Name)} {lives : List Life} {free spar
           go (inl w) = absurd (let live : life_at ls i ≡ Live = ap (life_at ls) w.2 ∙ by_life.inside w.0 Free w.1 in cc)
           go (inr o) = (o, sym (by_life.outside i Free o) ∙ e)
 
-      all : (k i : ℕ) → k < z.lanes → IsOfLane z k i → ((j : ℕ) → j < count → at j ≢ i) × (life_at lives i ≡ Free) → (j : ℕ) × (j < spare_at spare' k) × (free_at z free k j ≡ i)
-      all k i b o e =
-          let r = f.all k i b o e.1 in
-          (r.0, dite (ℕ_discrete k l) (λ (own : k ≡ l). low r.0 r.1 r.2 own) (λ (ne : k ≢ l). omega (arith, other_spare k ne, r.1)), r.2)
-        where
-          low : (j : ℕ) → j < spare_at spare k → free_at z free k j ≡ i → k ≡ l → j < spare_at spare' k
-          low j less there own =
-              let a : spare_at spare k ≡ spare_at spare l = ap (spare_at spare) own in
-              let a' : spare_at spare' k ≡ spare_at spare' l = ap (spare_at spare') own in
-              dite (dec_le (spare_at spare l - count) j)
-              (λ (h : spare_at spare l - count ≤ j).
-              let turn : spare_at spare l - (spare_at spare l - 1 - j + 1) ≡ j = omega arith in
-              let few : spare_at spare l - 1 - j < count = omega arith in
-              absurd (e.0 (spare_at spare l - 1 - j) few (place (spare_at spare l - 1 - j) few ∙ ap (free_at z free l) turn ∙ ap (λ (x : ℕ). free_at z free x j) (sym own) ∙ there)))
-              (λ (h : ¬ (spare_at spare l - count ≤ j)). let lt = lt_of_not-le h in omega (arith, own_spare))
+      r : LaneShows z lives l (get_or stocks l no_stock) (used l)
+      r = f.each l lane
 
-      sum : (k : ℕ) → k < z.lanes → spare_at spare' k + used' k ≡ z.quota
-      sum k b = go (l == k) refl
+      own : LaneShows z ls l (taken (get_or stocks l no_stock) count) (used' l)
+      own = record {
+        room = r.room;
+        of_lane = λ i a. r.of_lane i (among_drop count xs i a);
+        unused = λ i a. by_life.outside i Free (λ k b e. first_out xs count k r.once b (subst (λ (x : ℕ). Among (drop count xs) x) (sym e) a)) ∙ r.unused i (among_drop count xs i a);
+        once = distinct_drop count xs r.once;
+        all = λ i o e. let was = out i e in pick i was.0 (first_or xs count i (r.all i o was.1));
+        count = omega (arith, r.count, counts l, count_own l count, length-drop count xs);
+      }
         where
-          go : (t : Bool) → (l == k) ≡ t → spare_at spare' k + used' k ≡ z.quota
-          go true e =
-              let own = eqb-true l k e in
-              let bit : cond {A = ℕ} (l == k) count 0 ≡ count = ap (λ (x : Bool). cond {A = ℕ} x count 0) e in
-              let a : spare_at spare l ≡ spare_at spare k = ap (spare_at spare) own in
-              let a' : spare_at spare' l ≡ spare_at spare' k = ap (spare_at spare') own in
-              omega (arith, f.count k b, counts k, own_spare)
-          go false e =
-              let bit : cond {A = ℕ} (l == k) count 0 ≡ 0 = ap (λ (x : Bool). cond {A = ℕ} x count 0) e in
-              omega (arith, f.count k b, counts k, other_spare k (λ same. eqb-false l k e (sym same)))
+          pick : (i : ℕ) → ((k : ℕ) → k < count → at k ≢ i) → ((k : ℕ) × (k < count) × (get_or xs k 0 ≡ i)) ⊎ Among (drop count xs) i → Among (drop count xs) i
+          pick i o (inl w) = absurd (o w.0 w.1 w.2)
+          pick i o (inr a) = a
+
+      others : (k : ℕ) → k ≢ l → k < z.lanes → LaneShows z ls k (get_or stocks k no_stock) (used' k)
+      others k ne b =
+          let s = f.each k b in
+          record {
+            room = s.room;
+            of_lane = s.of_lane;
+            unused = λ i a. by_life.outside i Free (λ j low e. ne (same_lane (s.of_lane i a) (subst (λ (x : ℕ). IsOfLane z l x) e (popped_lane j low)))) ∙ s.unused i a;
+            once = s.once;
+            all = λ i o e. s.all i o (out i e).1;
+            count = omega (arith, s.count, counts k, count_other l k count ne);
+          }
 
 -- ---- what the code reads
 
--- the number of a lane's free indexes
-pub spare_read : {z : Sizes} {names : List (Option Name)} {lives : List Life} {free spare : List ℕ} {used : ℕ → ℕ} → FreeShows z names lives free spare used
-    → (l now : ℕ) → l < z.lanes → now ≡ get_or spare l now → now ≡ spare_at spare l
-spare_read {spare} f l now lane read = get_or_read spare l now (omega (arith, f.spare_len)) read 0
+-- the stock of a lane
+pub stock_read : {z : Sizes} {names : List (Option Name)} {lives : List Life} {stocks : List Stocked} {used : ℕ → ℕ} → FreeShows z names lives stocks used
+    → (l : ℕ) (now : Stocked) → l < z.lanes → now ≡ get_or stocks l now → now ≡ get_or stocks l no_stock
+stock_read {stocks} f l now lane read = get_or_read stocks l now (omega (arith, f.lanes)) read no_stock
 
--- a lane's stack gives so many indexes
-pub pops : {z : Sizes} {names : List (Option Name)} {lives : List Life} {free spare : List ℕ} {used : ℕ → ℕ} → FreeShows z names lives free spare used
-    → (l count now quota size : ℕ) (stack : List ℕ) → l < z.lanes → now ≡ get_or spare l now → quota ≡ z.quota → size ≡ item_count z → stack ≡ free
-    → count ≤ now → CanPop stack (l * quota + now) count size
-pops {z} {free} {spare} f l count now quota size stack lane read quota_is size_is stack_is enough =
-    let is = spare_read f l now lane read in
-    rw (is, quota_is, size_is, stack_is) (can_pop f l count lane (omega arith))
+-- it has no more than there are indexes
+pub spare_few : {z : Sizes} {names : List (Option Name)} {lives : List Life} {stocks : List Stocked} {used : ℕ → ℕ} → FreeShows z names lives stocks used
+    → (l : ℕ) (now : Stocked) → l < z.lanes → now ≡ get_or stocks l now → length now.free ≤ item_count z
+spare_few {z} f l now lane read =
+    let len = ap (λ (s : Stocked). length s.free) (stock_read f l now lane read) in
+    omega (arith, len, (f.each l lane).count, lane_end l z.lanes z.quota lane)
+
+-- it gives so many indexes
+pub pops : {z : Sizes} {names : List (Option Name)} {lives : List Life} {stocks : List Stocked} {used : ℕ → ℕ} → FreeShows z names lives stocks used
+    → (l count size : ℕ) (now : Stocked) → l < z.lanes → now ≡ get_or stocks l now → size ≡ item_count z → count ≤ length now.free → CanPop now.free count size
+pops {z} {stocks} f l count size now lane read size_is enough =
+    let is = stock_read f l now lane read in
+    subst (λ (s : Stocked). CanPop s.free count size) (sym is)
+    (subst (λ (n : ℕ). CanPop (free_of stocks l) count n) (sym size_is) (can_pop f l count lane (subst (λ (s : Stocked). count ≤ length s.free) is enough)))

@@ -59,7 +59,7 @@ purged_shows {z} {p} {w} {ls = ls} {ps} {rs = rs} k idle same removed gone count
   roots = k.roots;
   garbage = garbage_fewer (λ i n a. record { name = a.name; life = same.was_live i a.life }) k.garbage;
   colours = record { marked_len = k.marked_len; idle = k.idle; marks = λ e. absurd (let a = idle in cc) };
-  stock = record { made = k.made; free = free_lives same (λ lane. ap (λ (c : ℕ). live_count w lane + c) (counts lane)) k.free };
+  stock = record { made = k.made; free = free_lives same.free same.was_free (λ lane. ap (λ (c : ℕ). live_count w lane + c) (counts lane)) k.free };
   ends = record {
     removed = subst (λ (phase : Phase). RemovedShow z p.names ls ps p.left p.swept phase rs w.found w.swept) (sym idle) removed;
     gone = gone;

@@ -135,7 +135,7 @@ abbrev pub released_parts : Parts → Stocks → ℕ → Parts
 released_parts p t size =
     record p {
       objects = record (p.objects) { names = t.names; lives = t.lives };
-      stock = record (p.stock) { free = t.free; spare = t.spare };
+      stock = record (p.stock) { stocks = t.stocks };
       ends = record (p.ends) { left = p.left - size; done = None };
     }
 
@@ -284,11 +284,11 @@ module _ {z : Sizes} {old : Shown} {before mid : Option (List HookCall)} {was te
     pub release_chain : (j : ℕ) → j < size → chained p.next head j < length p.next
     release_chain = releasing.release_chain amid idle all head ready few_items
 
-    pub release_can : (j : ℕ) → j < size → CanGive z.quota (give_all z.quota (record { names = p.names; lives = p.lives; free = p.free; spare = p.spare }) p.next head j) (chained p.next head j)
+    pub release_can : (j : ℕ) → j < size → CanGive (give_all (record { names = p.names; lives = p.lives; stocks = p.stocks }) p.next head j) (chained p.next head j)
     release_can = releasing.release_can amid idle all head ready few_items
 
     abbrev t : Stocks
-    t = give_all z.quota (record { names = p.names; lives = p.lives; free = p.free; spare = p.spare }) p.next head size
+    t = give_all (record { names = p.names; lives = p.lives; stocks = p.stocks }) p.next head size
 
     -- what is held is none of what is released
     holds : (lane : ℕ) (r : Ref) → Holds (record { history = history; names = p.names }) lane r → Holds (record { history = history; names = t.names }) lane r

@@ -1,5 +1,5 @@
 -- Refused creations.
-use Rattle.std.proofs.Common.{◌≡◌, ℕ, ◌-◌, refl, arith, true, List, [], ◌∷◌, ◌++◌}
+use Rattle.std.proofs.Common.{◌≡◌, ℕ, ◌-◌, refl, arith, true, List, [], ◌∷◌, ◌++◌, length}
 use Rattle.world_model.specs.Sizes.{Sizes}
 use Rattle.world_model.specs.World.{made}
 use Rattle.world_model.specs.Histories.{after}
@@ -9,13 +9,13 @@ use Rattle.heap_plain.specs.Types.act
 use Rattle.heap_plain.specs.Types.create
 use Rattle.heap_plain.specs.Parts.{Parts}
 use Rattle.heap_plain.specs.Creation.{Refuses}
-use Rattle.heap_plain.specs.Stocking.{spare_at}
+use Rattle.heap_plain.specs.Stocked.{free_of}
 use Rattle.heap_plain.specs.Plain.{IsPlain}
 use Rattle.heap_plain.proofs.Resting.{in_open, is_staying}
 use Rattle.heap_plain.proofs.Entries.{Done, does}
 
 pub refuses : {z : Sizes} {p : Parts} {h : List Entry} {l m left room : ℕ} (asked : ℕ) (e : CreateErr) → IsPlain z p h → IsInFrame z h l
-    → m ≡ made (after h) l → left ≡ z.names - m → room ≡ spare_at p.spare l → Refuses asked left room e
+    → m ≡ made (after h) l → left ≡ z.names - m → room ≡ length (free_of p.stocks l) → Refuses asked left room e
     → Done z p h (h ++ record { pass = Lane l; act = act_of_refusal asked e } ∷ []) (Lane l) (act_of_refusal asked e)
 refuses {l = l} asked (create.NamesSpent left) was frame is by_names by_stack d =
     does (Lane l) (act.NamesSpent asked left) (act.NamesSpent asked left ∷ []) was (refl, tt) (
@@ -27,7 +27,7 @@ refuses {l = l} asked (create.Full free) was frame is by_names by_stack d =
       record {
         in_range = frame.in_range;
         frame = in_open was.rest.between frame.opened;
-        may = record { names = omega (arith, d.0); rest = omega (arith, d.1, was.shows.free.count l frame.in_range); short = d.2 };
+        may = record { names = omega (arith, d.0); rest = omega (arith, d.1, (was.shows.free.each l frame.in_range).count); short = d.2 };
       },
       tt,
     )

@@ -42,7 +42,7 @@ use Rattle.heap_plain.proofs.SweepSteps.{name_among, among_name}
 use Rattle.heap_plain.proofs.Gathering.{first_among, filter_one, same_unit, distinct_unit}
 use Rattle.heap_plain.proofs.Queueing.{named_none}
 use Rattle.heap_plain.proofs.Emptying.{Emptying, Emptied, Empties, empties}
-use Rattle.heap_plain.proofs.Restaging.{gone_index}
+use Rattle.heap_plain.proofs.Restaging.{gone_index, free_lives}
 use Rattle.heap_plain.proofs.PurgeSteps.{IsAmid}
 
 -- ---- lists
@@ -197,7 +197,7 @@ module _ {z : Sizes} {p : Parts} {h : List Entry} (amid : IsAmid z p h) (idle : 
   -- ---- the vectors
 
   abbrev before : Stocks
-  before = record { names = p.names; lives = p.lives; free = p.free; spare = p.spare }
+  before = record { names = p.names; lives = p.lives; stocks = p.stocks }
 
   -- how many objects of a lane are left
   abbrev used : ℕ → ℕ
@@ -205,16 +205,8 @@ module _ {z : Sizes} {p : Parts} {h : List Entry} (amid : IsAmid z p h) (idle : 
 
   emptying : Emptying z before p.next head u used
   emptying = record {
-    free = record {
-      free_len = k.free.free_len;
-      spare_len = k.free.spare_len;
-      of_lane = k.free.of_lane;
-      unused = k.free.unused;
-      once = k.free.once;
-      all = k.free.all;
-      nameless = k.free.nameless;
-      count = λ lane b. omega (arith, k.free.count lane b, occupied_next z h (record { pass = Collector; act = act.Released n }) amid.legal release_may lane, freed_is (λ m. m.lane == lane));
-    };
+    free = free_lives (λ i f. f) (λ i f. f)
+        (λ lane. omega (arith, occupied_next z h (record { pass = Collector; act = act.Released n }) amid.legal release_may lane, freed_is (λ m. m.lane == lane))) k.free;
     by_name = k.names.items;
     by_life = k.units.lives_len;
     linked = lies.linked;
@@ -225,9 +217,9 @@ module _ {z : Sizes} {p : Parts} {h : List Entry} (amid : IsAmid z p h) (idle : 
   }
 
   emptied : Empties z before p.next head u used
-  emptied = empties z before p.next head u used few_items emptying
+  emptied = empties z before p.next head u used emptying
 
-  pub release_can : (j : ℕ) → j < get_or p.sizes head 0 → CanGive z.quota (give_all z.quota before p.next head j) (chained p.next head j)
+  pub release_can : (j : ℕ) → j < get_or p.sizes head 0 → CanGive (give_all before p.next head j) (chained p.next head j)
   release_can j b = emptied.can j (omega (arith, size_is))
 
   pub release_chain : (j : ℕ) → j < get_or p.sizes head 0 → chained p.next head j < length p.next
@@ -236,10 +228,10 @@ module _ {z : Sizes} {p : Parts} {h : List Entry} (amid : IsAmid z p h) (idle : 
       omega (arith, name_below p.names (chained p.next head j) m.0 m.1, k.names.items, k.units.links_len)
 
   abbrev t : Stocks
-  t = give_all z.quota before p.next head (get_or p.sizes head 0)
+  t = give_all before p.next head (get_or p.sizes head 0)
 
   end : Emptied z before t u used
-  end = subst (λ (size : ℕ). Emptied z before (give_all z.quota before p.next head size) u used) (sym size_is) emptied.end
+  end = subst (λ (size : ℕ). Emptied z before (give_all before p.next head size) u used) (sym size_is) emptied.end
 
   -- ---- the sections
 
@@ -489,7 +481,7 @@ module _ {z : Sizes} {p : Parts} {h : List Entry} (amid : IsAmid z p h) (idle : 
   pub release_shows : ShowsWorld z
       (record p {
         objects = o';
-        stock = record (p.stock) { free = t.free; spare = t.spare };
+        stock = record (p.stock) { stocks = t.stocks };
         ends = record (p.ends) { left = p.left - get_or p.sizes head 0; done = None };
       }) (released w n) s.marks.kept s.marks.fresh s.marks.scanned
       s.collector.asked

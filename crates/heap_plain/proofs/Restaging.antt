@@ -17,7 +17,8 @@ use Rattle.heap_plain.specs.declared.life.Life.{Life}
 use Rattle.heap_plain.specs.declared.life.Life.TheVariants.{Free, Live}
 use Rattle.heap_plain.specs.Parts.{Objects, name_at, life_at, is_gone, stage_of}
 use Rattle.heap_plain.specs.Units.{NamesShow, UnitsShow, StandsAt}
-use Rattle.heap_plain.specs.Stocking.{FreeShows, free_at}
+use Rattle.heap_plain.specs.Stocked.{Stocked}
+use Rattle.heap_plain.specs.Stocking.{FreeShows}
 use Rattle.heap_plain.specs.Destroying.{RemovedShow, removal_at, GoneShow, LiesAt, at_end, still_there}
 use Rattle.heap_plain.proofs.WorldFacts.{differs}
 use Rattle.heap_plain.proofs.Standing.{life_below}
@@ -92,17 +93,20 @@ module _ (o : Objects) {ls : List Life} (same : SameLives o.lives ls) where
     all = λ u a. let r = us.all u a in (r.0, stands_lives r.0 u r.1);
   }
 
-pub free_lives : {z : Sizes} {names : List (Option Name)} {lives ls : List Life} {free spare : List ℕ} {used used' : ℕ → ℕ} → SameLives lives ls
-    → ((lane : ℕ) → used' lane ≡ used lane) → FreeShows z names lives free spare used → FreeShows z names ls free spare used'
-free_lives {z} {free = free} same counts f = record {
-  free_len = f.free_len;
-  spare_len = f.spare_len;
-  of_lane = f.of_lane;
-  unused = λ lane k b e. same.free (free_at z free lane k) (f.unused lane k b e);
-  once = f.once;
-  all = λ lane i b p e. f.all lane i b p (same.was_free i e);
-  nameless = λ i e. f.nameless i (same.was_free i e);
-  count = λ lane b. omega (arith, f.count lane b, counts lane);
+-- where what is free stays so, and as many are used
+pub free_lives : {z : Sizes} {names : List (Option Name)} {lives ls : List Life} {stocks : List Stocked} {used used' : ℕ → ℕ} → ((i : ℕ) → life_at lives i ≡ Free → life_at ls i ≡ Free)
+    → ((i : ℕ) → life_at ls i ≡ Free → life_at lives i ≡ Free) → ((lane : ℕ) → used' lane ≡ used lane) → FreeShows z names lives stocks used → FreeShows z names ls stocks used'
+free_lives free was_free counts f = record {
+  lanes = f.lanes;
+  each = λ lane b. let s = f.each lane b in record {
+    room = s.room;
+    of_lane = s.of_lane;
+    unused = λ i a. free i (s.unused i a);
+    once = s.once;
+    all = λ i o e. s.all i o (was_free i e);
+    count = omega (arith, s.count, counts lane);
+  };
+  nameless = λ i e. f.nameless i (was_free i e);
 }
 
 -- ---- a removal that changes

@@ -2,13 +2,13 @@
 pub mod Types
 -- lists without repetition
 pub mod Lists
--- the queue of destruction, the marks, the vectors of a plain heap, and what callers see of them
+-- the queue of destruction, the marks, the free indexes, the vectors of a plain heap, and what callers see of them
 pub mod Queue
 pub mod Painted
+pub mod Stocked
 pub mod Parts
 -- what the functions over the vectors do
 pub mod Filling
-pub mod Stacks
 pub mod Creation
 pub mod Notes
 pub mod Sweeping

@@ -9,6 +9,7 @@ use Rattle.world_model.specs.World as world
 use Rattle.world_model.specs.State as model
 use Rattle.heap_plain.specs.Queue.{Queued}
 use Rattle.heap_plain.specs.Painted.{Painted}
+use Rattle.heap_plain.specs.Stocked.{Stocked}
 use Rattle.heap_plain.specs.declared.life.Life.{Life}
 use Rattle.heap_plain.specs.declared.life.Life.TheVariants.{Free, Removed, Begun, Finished}
 
@@ -59,10 +60,9 @@ pub record Rows : Type 0 where
   pub targets : List (Option ℕ)
   pub plains : List ℕ
 
--- what each lane has left: the stacks of free indexes, how many stand on each, and how many objects were made
+-- of each lane its free indexes, and how many objects it made
 pub record Stock : Type 0 where
-  pub free : List ℕ
-  pub spare : List ℕ
+  pub stocks : List Stocked
   pub made : List ℕ
 
 -- the removed objects: how many are left and how far sweeps came, the queue of destruction, polls, what units wait for, and the unit that is to be released

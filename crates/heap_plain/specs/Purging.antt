@@ -1,11 +1,12 @@
 -- What a step of destruction does to the vectors.
-use Rattle.std.specs.Prelude.{◌≡◌, ℕ, ◌+◌, ◌*◌, ◌<◌, ◌^◌, nat_lt, Bool, true, false, if◌then◌else◌, List, [], ◌∷◌, ◌++◌, length, get_or, Option, Some, None, IsSome, ⊤, zero, suc}
+use Rattle.std.specs.Prelude.{◌≡◌, ℕ, ◌+◌, ◌<◌, nat_lt, Bool, true, false, if◌then◌else◌, List, [], ◌∷◌, ◌++◌, length, get_or, Option, Some, None, IsSome, ⊤, zero, suc}
 use Rattle.std.proofs.Math.ListN.{set}
 use Rattle.heap_plain.specs.Types.{Name, ClassId, HookCall, Act}
 use Rattle.heap_plain.specs.Types.act
 use Rattle.heap_plain.specs.Types.called
 use Rattle.heap_plain.specs.declared.life.Life.{Life}
 use Rattle.heap_plain.specs.declared.life.Life.TheVariants.{Free}
+use Rattle.heap_plain.specs.Stocked.{Stocked, no_stock, free_of, given}
 use Rattle.heap_plain.specs.Parts.{name_at, name_of}
 use Rattle.heap_plain.specs.Listing.{chained}
 
@@ -37,38 +38,32 @@ finished_unit head (suc rest) = None
 
 -- ---- releasing
 
--- the vectors that a release changes
+-- what a release changes
 pub record Stocks : Type 0 where
   pub names : List (Option Name)
   pub lives : List Life
-  pub free : List ℕ
-  pub spare : List ℕ
+  pub stocks : List Stocked
 
--- the lane of the object at an index, and the top of that lane's stack
+-- the lane of the object at an index
 abbrev pub lane_at : List (Option Name) → ℕ → ℕ
 lane_at names i = (name_of names i).lane
 
-abbrev pub top_at : Stocks → ℕ → ℕ
-top_at s i = get_or s.spare (lane_at s.names i) 0
-
--- the object is taken off the index, which is pushed on the stack of its lane
-abbrev pub give : ℕ → Stocks → ℕ → Stocks
-give quota s i = record {
+-- the object is taken off the index, which is given back to its lane
+abbrev pub give : Stocks → ℕ → Stocks
+give s i = record {
   names = set s.names i None;
   lives = set s.lives i Free;
-  free = set s.free (lane_at s.names i * quota + top_at s i) i;
-  spare = set s.spare (lane_at s.names i) (top_at s i + 1);
+  stocks = set s.stocks (lane_at s.names i) (given (get_or s.stocks (lane_at s.names i) no_stock) i);
 }
 
-pub record CanGive (quota : ℕ) (s : Stocks) (i : ℕ) : Type 0 where
+pub record CanGive (s : Stocks) (i : ℕ) : Type 0 where
   pub named : IsSome (name_at s.names i)
   pub by_name : i < length s.names
   pub by_life : i < length s.lives
-  pub lane : lane_at s.names i < length s.spare
-  pub room : lane_at s.names i * quota + top_at s i < length s.free
-  pub few : top_at s i + 1 < 2 ^ 32
+  pub lane : lane_at s.names i < length s.stocks
+  pub room : length (free_of s.stocks (lane_at s.names i)) < (get_or s.stocks (lane_at s.names i) no_stock).room
 
 -- the first count of the indexes from one on, each linked to the next
-abbrev pub give_all : ℕ → Stocks → List ℕ → ℕ → ℕ → Stocks
-give_all quota s links i zero = s
-give_all quota s links i (suc count) = give quota (give_all quota s links i count) (chained links i count)
+abbrev pub give_all : Stocks → List ℕ → ℕ → ℕ → Stocks
+give_all s links i zero = s
+give_all s links i (suc count) = give (give_all s links i count) (chained links i count)

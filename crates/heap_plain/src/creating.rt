@@ -1,14 +1,14 @@
 //! Making a unit.
-ghost use Rattle.std.specs.Prelude.{◌≡◌, ◌∷◌, [], ◌++◌, ◌+◌, ◌-◌, ◌*◌, ◌≤◌, ◌<◌, ◌^◌, Some, length};
+ghost use Rattle.std.specs.Prelude.{ℕ, ◌≡◌, ◌∷◌, [], ◌++◌, ◌+◌, ◌-◌, ◌*◌, ◌≤◌, ◌<◌, ◌^◌, Some, length};
 ghost use Rattle.heap_plain.specs.Types.{Lane};
 ghost use Rattle.world_model.specs.Engines.{act_of_refusal};
 ghost use Rattle.heap_plain.specs.Filling.{Filled, FilledAt, RowsFilled};
-ghost use Rattle.heap_plain.specs.Stacks.{CanPop, popped};
+ghost use Rattle.heap_plain.specs.Stocked.{CanPop, popped};
 ghost use Rattle.heap_plain.specs.Creation.{Decides};
 ghost use Rattle.heap_plain.specs.Parts.{kind_at};
 
 use crate::filled::fill;
-use crate::stacks::popped;
+use crate::stock::Stock;
 use world_model::{CreateErr, Diary, Kind, Name, Pass, Ref};
 
 /// Whether `asked` objects may be made where `left` names are left and `free` indexes are free.
@@ -35,93 +35,84 @@ pub(crate) fn refuse(lane: u32, asked: u32, refused: CreateErr, diary: &mut Diar
     }
 }
 
-/// Writes the names of a lane from count `first` on to the places that the stack gives.
+/// Writes the names of a lane from count `first` on to the next free places.
 pub(crate) fn place(
     names: &mut Vec<Option<Name>>,
-    free: &[u32],
-    top: usize,
+    free: &Stock,
     count: usize,
     lane: u32,
     first: u64,
 )
-    requires stack { CanPop free.now top count (length names.old.items) }
+    requires stack { CanPop free.now.free count (length names.old.items) }
     requires few { first + count < 2 ^ 64 }
-    ensures { FilledAt names.old.items names.new.items (popped free.now top) count (λ k. Some (record { lane = lane; count = first + k })) }
+    ensures { FilledAt names.old.items names.new.items (popped free.now.free) count (λ k. Some (record { lane = lane; count = first + k })) }
 {
     for k in 0..count {
-        names[popped(free, top, k) as usize] = Some(Name {
+        names[free.peek(k) as usize] = Some(Name {
             lane,
             count: first + k as u64,
         });
     }
 }
 
-/// Writes `value` to the places that the stack gives.
-pub(crate) fn fill_popped<T: Copy + Drop>(
-    items: &mut Vec<T>,
-    free: &[u32],
-    top: usize,
-    count: usize,
-    value: T,
-)
-    requires stack { CanPop free.now top count (length items.old.items) }
-    ensures { FilledAt items.old.items items.new.items (popped free.now top) count (λ k. value) }
+/// Writes `value` to the next free places.
+pub(crate) fn fill_popped<T: Copy + Drop>(items: &mut Vec<T>, free: &Stock, count: usize, value: T)
+    requires stack { CanPop free.now.free count (length items.old.items) }
+    ensures { FilledAt items.old.items items.new.items (popped free.now.free) count (λ k. value) }
 {
     for k in 0..count {
-        items[popped(free, top, k) as usize] = value;
+        items[free.peek(k) as usize] = value;
     }
 }
 
-/// Writes these kinds to the places that the stack gives.
-pub(crate) fn classify(stored: &mut Vec<Kind>, free: &[u32], top: usize, kinds: &[Kind])
-    requires stack { CanPop free.now top (length kinds.now) (length stored.old.items) }
-    ensures { FilledAt stored.old.items stored.new.items (popped free.now top) (length kinds.now) (kind_at kinds.now) }
+/// Writes these kinds to the next free places.
+pub(crate) fn classify(stored: &mut Vec<Kind>, free: &Stock, kinds: &[Kind])
+    requires stack { CanPop free.now.free (length kinds.now) (length stored.old.items) }
+    ensures { FilledAt stored.old.items stored.new.items (popped free.now.free) (length kinds.now) (kind_at kinds.now) }
 {
     for k in 0..kinds.len() {
-        stored[popped(free, top, k) as usize] = kinds[k];
+        stored[free.peek(k) as usize] = kinds[k];
     }
 }
 
-/// Writes `value` to all cells of the rows that the stack gives. A row has `slots` cells.
+/// Writes `value` to all cells of the rows of the next free indexes. A row has `slots` cells.
 pub(crate) fn fill_rows<T: Copy + Drop>(
     cells: &mut Vec<T>,
-    free: &[u32],
-    top: usize,
+    free: &Stock,
     count: usize,
     slots: usize,
     value: T,
 )
-    requires stack { CanPop free.now top count (length free.now) }
-    requires rows { length free.now * slots ≤ length cells.old.items }
-    ensures { RowsFilled cells.old.items cells.new.items (popped free.now top) count slots value }
+    requires enough { count ≤ length free.now.free }
+    requires rows { (k : ℕ) → k < count → popped free.now.free k * slots + slots ≤ length cells.old.items }
+    ensures { RowsFilled cells.old.items cells.new.items (popped free.now.free) count slots value }
 {
     for k in 0..count {
-        fill(cells, popped(free, top, k) as usize * slots, slots, value);
+        fill(cells, free.peek(k) as usize * slots, slots, value);
     }
 }
 
-/// Writes to each place that the stack gives, but the last, the next one.
-pub(crate) fn link(next: &mut Vec<u32>, free: &[u32], top: usize, count: usize)
+/// Writes to each of the next free places, but the last, the one behind it.
+pub(crate) fn link(next: &mut Vec<u32>, free: &Stock, count: usize)
     requires some { 1 ≤ count }
-    requires stack { CanPop free.now top count (length next.old.items) }
-    ensures { FilledAt next.old.items next.new.items (popped free.now top) (count - 1) (λ k. popped free.now top (k + 1)) }
+    requires stack { CanPop free.now.free count (length next.old.items) }
+    ensures { FilledAt next.old.items next.new.items (popped free.now.free) (count - 1) (λ k. popped free.now.free (k + 1)) }
 {
     for k in 0..count - 1 {
-        next[popped(free, top, k) as usize] = popped(free, top, k + 1);
+        next[free.peek(k) as usize] = free.peek(k + 1);
     }
 }
 
-/// Writes references to the objects at the indexes that the stack gives, whose names are those of
+/// Writes references to the objects at the next free indexes, whose names are those of
 /// the lane from count `first` on.
-pub(crate) fn answer(out: &mut [Ref], free: &[u32], top: usize, lane: u32, first: u64)
-    requires enough { length out.old ≤ top }
-    requires room { top ≤ length free.now }
+pub(crate) fn answer(out: &mut [Ref], free: &Stock, lane: u32, first: u64)
+    requires enough { length out.old ≤ length free.now.free }
     requires few { first + length out.old < 2 ^ 64 }
-    ensures { Filled out.old out.new 0 (length out.old) (λ k. record { index = popped free.now top k; name = record { lane = lane; count = first + k } }) }
+    ensures { Filled out.old out.new 0 (length out.old) (λ k. record { index = popped free.now.free k; name = record { lane = lane; count = first + k } }) }
 {
     for k in 0..out.len() {
         out[k] = Ref {
-            index: popped(free, top, k),
+            index: free.peek(k),
             name: Name {
                 lane,
                 count: first + k as u64,

@@ -19,7 +19,7 @@ use crate::purging::{ask_at, begin_at, finish_at, release};
 use crate::queue::Queue;
 use crate::rooting::store;
 use crate::scanning::{shade_roots, shade_unit};
-use crate::stacks::{full_stacks, popped};
+use crate::stock::{Stock, full_stocks};
 use crate::storing::{index_of, name_of, referred, rooting, shade_target};
 use crate::sweeping::{find_removed, remove_white};
 use std::alloc::{AllocError, Global};
@@ -42,7 +42,7 @@ const NO_KIND: Kind = Kind {
 /// All memory is taken by `new`: for each index of the shape its name, the first index and the
 /// size of its unit, the index of the next member, its kind, a row of reference cells and one of plain
 /// cells, whether it lives, its root bit, its mark bit, the number of its polls, the number of members
-/// that its unit waits for, a place of the worklist, one of the stack of free indexes, one of the
+/// that its unit waits for, a place of the worklist, one among the free indexes of its lane, one of the
 /// queue of destruction, and whether it is garbage.
 /// Opening and closing a frame, setting a root, reading and writing a cell, and marking an object as
 /// garbage and asking for that cost a few steps; making a unit as many as it has cells; taking one apart
@@ -67,11 +67,8 @@ pub struct PlainHeap<S: Shape> {
     roots: Vec<bool>,
     /// Which units are marked, and the worklist of the running collection.
     colours: Colours,
-    /// The stacks of free indexes: that of a lane begins at the lane's first index, and has as many
-    /// entries as the lane has spare indexes.
-    free: Vec<u32>,
-    spare: Vec<u32>,
-    /// How many objects each lane has made, and whether its frame is open.
+    /// Of each lane the free indexes, how many objects it has made, and whether its frame is open.
+    stocks: Vec<Stock>,
     made: Vec<u64>,
     frames: Vec<bool>,
     phase: Phase,
@@ -109,7 +106,7 @@ impl<S: Shape> Model for PlainHeap<S> {
       roots = h.roots.items;
       garbage = h.garbage.items;
       colours = h.colours;
-      stock = record { free = h.free.items; spare = h.spare.items; made = h.made.items };
+      stock = record { stocks = h.stocks.items; made = h.made.items };
       ends = record { left = h.left; swept = h.swept; queue = h.queue; polls = h.polls.items; waiting = h.waiting.items; done = h.done };
     }) h.diary };
 }
@@ -121,8 +118,8 @@ impl<S: Shape> PlainHeap<S> {
         ensures nothing_held { IfOk result HoldsNothing }
     {
         let lanes = S::LANES as usize;
-        let quota = S::QUOTA;
-        let items = lanes * quota as usize;
+        let quota = S::QUOTA as usize;
+        let items = lanes * quota;
         let cells = items * S::SLOTS as usize;
         Ok(PlainHeap {
             names: filled(alloc, items, None)?,
@@ -135,8 +132,7 @@ impl<S: Shape> PlainHeap<S> {
             lives: filled(alloc, items, Life::Free)?,
             roots: filled(alloc, items, false)?,
             colours: Colours::new(alloc, items)?,
-            free: full_stacks(alloc, lanes, quota as usize)?,
-            spare: filled(alloc, lanes, quota)?,
+            stocks: full_stocks(alloc, lanes, quota)?,
             made: filled(alloc, lanes, 0)?,
             frames: filled(alloc, lanes, false)?,
             phase: Phase::Idle,
@@ -182,29 +178,28 @@ impl<S: Shape> Engine<S> for PlainHeap<S> {
     fn create(&mut self, lane: u32, kinds: &[Kind], out: &mut [Ref]) -> Result<(), CreateErr> {
         let asked = kinds.len();
         let made = self.made[lane as usize];
-        let spare = self.spare[lane as usize];
-        let decision = decide(asked as u32, S::NAMES - made, spare);
+        let free = &self.stocks[lane as usize];
+        let decision = decide(asked as u32, S::NAMES - made, free.spare() as u32);
         if let Err(refused) = decision {
             refuse(lane, asked as u32, refused, &mut self.diary);
             return Err(refused);
         }
-        let top = lane as usize * S::QUOTA as usize + spare as usize;
-        let head = popped(&self.free, top, 0);
+        let head = free.peek(0);
         let slots = S::SLOTS as usize;
-        place(&mut self.names, &self.free, top, asked, lane, made + 1);
-        fill_popped(&mut self.firsts, &self.free, top, asked, head);
-        classify(&mut self.kinds, &self.free, top, kinds);
-        fill_rows(&mut self.targets, &self.free, top, asked, slots, None);
-        fill_rows(&mut self.plains, &self.free, top, asked, slots, 0);
-        fill_popped(&mut self.lives, &self.free, top, asked, Life::Live);
-        link(&mut self.next, &self.free, top, asked);
-        fill_popped(&mut self.garbage, &self.free, top, asked, false);
+        place(&mut self.names, free, asked, lane, made + 1);
+        fill_popped(&mut self.firsts, free, asked, head);
+        classify(&mut self.kinds, free, kinds);
+        fill_rows(&mut self.targets, free, asked, slots, None);
+        fill_rows(&mut self.plains, free, asked, slots, 0);
+        fill_popped(&mut self.lives, free, asked, Life::Live);
+        link(&mut self.next, free, asked);
+        fill_popped(&mut self.garbage, free, asked, false);
+        answer(out, free, lane, made + 1);
         self.sizes[head as usize] = asked as u32;
         self.colours.bear(head);
-        self.spare[lane as usize] = spare - asked as u32;
+        self.stocks[lane as usize].take(asked);
         self.made[lane as usize] = made + asked as u64;
         self.diary.make(Pass::Lane(lane), kinds, made + 1);
-        answer(out, &self.free, top, lane, made + 1);
         Ok(())
     }
 
@@ -469,10 +464,8 @@ impl<S: Shape> Engine<S> for PlainHeap<S> {
                 release(
                     &mut self.names,
                     &mut self.lives,
-                    &mut self.free,
-                    &mut self.spare,
+                    &mut self.stocks,
                     &self.next,
-                    S::QUOTA,
                     head,
                     size,
                 );

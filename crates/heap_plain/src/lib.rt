@@ -17,7 +17,7 @@ mod purging;
 mod queue;
 mod rooting;
 mod scanning;
-mod stacks;
+mod stock;
 mod storing;
 mod sweeping;
 

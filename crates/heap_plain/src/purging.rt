@@ -13,6 +13,7 @@ ghost use Rattle.heap_plain.specs.Listing.{chained};
 
 use crate::life::Life;
 use crate::marking::named;
+use crate::stock::Stock;
 use world_model::{Diary, Hooks, Kind, Name, Pass};
 
 /// Tells the object at an index to begin its destruction, and notes it.
@@ -100,46 +101,40 @@ pub(crate) fn finish_at(
     if rest == 0 { Some(head) } else { None }
 }
 
-/// Takes the object off an index, and pushes the index on the stack of its lane.
+/// Takes the object off an index, and gives the index back to its lane.
 fn give_back(
     names: &mut Vec<Option<Name>>,
     lives: &mut Vec<Life>,
-    free: &mut Vec<u32>,
-    spare: &mut Vec<u32>,
-    quota: u32,
+    stocks: &mut Vec<Stock>,
     index: u32,
 )
-    requires { CanGive quota (record { names = names.old.items; lives = lives.old.items; free = free.old.items; spare = spare.old.items }) index }
-    ensures { record { names = names.new.items; lives = lives.new.items; free = free.new.items; spare = spare.new.items } ≡ give quota (record { names = names.old.items; lives = lives.old.items; free = free.old.items; spare = spare.old.items }) index }
+    requires { CanGive (record { names = names.old.items; lives = lives.old.items; stocks = stocks.old.items }) index }
+    ensures { record { names = names.new.items; lives = lives.new.items; stocks = stocks.new.items } ≡ give (record { names = names.old.items; lives = lives.old.items; stocks = stocks.old.items }) index }
 {
     let lane = named(names, index as usize).lane;
-    let top = spare[lane as usize];
     names[index as usize] = None;
     lives[index as usize] = Life::Free;
-    free[lane as usize * quota as usize + top as usize] = index;
-    spare[lane as usize] = top + 1;
+    stocks[lane as usize].give(index);
 }
 
-/// Takes the `count` objects of a unit off their indexes, of which the first is `head`, and pushes
-/// each index on the stack of its lane.
+/// Takes the `count` objects of a unit off their indexes, of which the first is `head`, and gives
+/// each index back to its lane.
 pub(crate) fn release(
     names: &mut Vec<Option<Name>>,
     lives: &mut Vec<Life>,
-    free: &mut Vec<u32>,
-    spare: &mut Vec<u32>,
+    stocks: &mut Vec<Stock>,
     next: &[u32],
-    quota: u32,
     head: u32,
     count: u32,
 )
     requires chain { (k : ℕ) → k < count → chained next.now head k < length next.now }
-    requires can { (k : ℕ) → k < count → CanGive quota (give_all quota (record { names = names.old.items; lives = lives.old.items; free = free.old.items; spare = spare.old.items }) next.now head k) (chained next.now head k) }
-    ensures { record { names = names.new.items; lives = lives.new.items; free = free.new.items; spare = spare.new.items } ≡ give_all quota (record { names = names.old.items; lives = lives.old.items; free = free.old.items; spare = spare.old.items }) next.now head count }
+    requires can { (k : ℕ) → k < count → CanGive (give_all (record { names = names.old.items; lives = lives.old.items; stocks = stocks.old.items }) next.now head k) (chained next.now head k) }
+    ensures { record { names = names.new.items; lives = lives.new.items; stocks = stocks.new.items } ≡ give_all (record { names = names.old.items; lives = lives.old.items; stocks = stocks.old.items }) next.now head count }
 {
     let mut index = head;
     for k in 0..count {
         let _ = k;
-        give_back(names, lives, free, spare, quota, index);
+        give_back(names, lives, stocks, index);
         index = next[index as usize];
     }
 }

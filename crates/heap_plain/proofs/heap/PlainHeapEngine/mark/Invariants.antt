@@ -13,7 +13,7 @@ invariant-loop-self g l = record {
     roots = l.self-inside.roots.items;
     garbage = l.self-inside.garbage.items;
     colours = l.self-inside.colours;
-    stock = record { free = l.self-inside.free.items; spare = l.self-inside.spare.items; made = l.self-inside.made.items };
+    stock = record { stocks = l.self-inside.stocks.items; made = l.self-inside.made.items };
     ends =
         record {
           left = l.self-inside.left;

@@ -73,7 +73,7 @@ release-requires g c =
     let below = release_below i c.if-self-gt0.true c.in_default-begin.ensures.1 c.in-Some-done.head c.in-Some-done.is few in
     let size : c.index-size.result.now ≡ get_or c.loop-steps.self-inside.sizes.items c.in-Some-done.head 0 =
     get_or_read c.loop-steps.self-inside.sizes.items _ _ (omega (arith, below, i.shows.units.sizes_len)) c.index-size.ensures 0 in
-    rw (c.deref-in-Some-done-2.ensures.value, c.QUOTA.ensures, g.S.Shape.constants.quota, size) (record {
+    rw (c.deref-in-Some-done-2.ensures.value, size) (record {
       chain = release_chain i c.if-self-gt0.true c.in_default-begin.ensures.1 c.in-Some-done.head c.in-Some-done.is few;
       can = release_can i c.if-self-gt0.true c.in_default-begin.ensures.1 c.in-Some-done.head c.in-Some-done.is few;
     })
@@ -85,7 +85,7 @@ loop-steps-preserved-in-Some-done g c =
     let below = release_below i c.if-self-gt0.true c.in_default-begin.ensures.1 c.in-Some-done.head c.in-Some-done.is few in
     let size : c.index-size.result.now ≡ get_or c.loop-steps.self-inside.sizes.items c.in-Some-done.head 0 =
     get_or_read c.loop-steps.self-inside.sizes.items _ _ (omega (arith, below, i.shows.units.sizes_len)) c.index-size.ensures 0 in
-    let t = rw (c.deref-in-Some-done-2.ensures.value, c.QUOTA.ensures, g.S.Shape.constants.quota, size) at c.release.ensures in
+    let t = rw (c.deref-in-Some-done-2.ensures.value, size) at c.release.ensures in
     let name = rw (c.deref-in-Some-done.ensures.value) at c.named.ensures in
     rw (c.released.ensures, c.in_default-begin.ensures.0) (record {
       within = omega (arith, c.loop-steps-test.true);
