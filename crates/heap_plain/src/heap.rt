@@ -10,7 +10,7 @@ ghost use Rattle.world_model.specs.Engines.{KeepsHeld};
 use crate::colours::Colours;
 use crate::creating::{answer, classify, decide, fill_popped, fill_rows, link, place, refuse};
 use crate::filled::{copy, fill, filled};
-use crate::frames::count_open;
+use crate::gate::Gate;
 use crate::life::Life;
 use crate::listing::{list_unit, list_units};
 use crate::marking::{is_done, may_end, may_start, named, starts, stop_of};
@@ -67,11 +67,11 @@ pub struct PlainHeap<S: Shape> {
     roots: Vec<bool>,
     /// Which units are marked, and the worklist of the running collection.
     colours: Colours,
-    /// Of each lane the free indexes, how many objects it has made, and whether its frame is open.
+    /// Of each lane the free indexes, and how many objects it has made.
     stocks: Vec<Stock>,
     made: Vec<u64>,
-    frames: Vec<bool>,
-    phase: Phase,
+    /// The phase, and which frames are open.
+    gate: Gate,
     /// How many removed objects are left, or, while they are being found, are found; and how many
     /// items the sweeps since the last commit have looked at.
     left: u32,
@@ -100,7 +100,7 @@ impl<S: Shape> Model for PlainHeap<S> {
     ghost view = { λ h. record { history = h.diary; names = h.names.items } };
 
     ghost invariant = { λ h. IsPlain S.sizes (record {
-      gate = record { phase = h.phase; frames = h.frames.items };
+      gate = h.gate;
       objects = record { names = h.names.items; firsts = h.firsts.items; sizes = h.sizes.items; next = h.next.items; lives = h.lives.items };
       rows = record { kinds = h.kinds.items; targets = h.targets.items; plains = h.plains.items };
       roots = h.roots.items;
@@ -134,8 +134,7 @@ impl<S: Shape> PlainHeap<S> {
             colours: Colours::new(alloc, items)?,
             stocks: full_stocks(alloc, lanes, quota)?,
             made: filled(alloc, lanes, 0)?,
-            frames: filled(alloc, lanes, false)?,
-            phase: Phase::Idle,
+            gate: Gate::new(alloc, lanes)?,
             left: 0,
             swept: 0,
             queue: Queue::new(alloc, items)?,
@@ -161,17 +160,18 @@ impl<S: Shape> Engine<S> for PlainHeap<S> {
     ghost one_index = { one };
 
     fn lawful(&self) {
-        let _ = self.frames.len();
+        let _ = self.gate.phase();
     }
 
     fn open_frame(&mut self, lane: u32) -> Phase {
-        self.frames[lane as usize] = true;
-        self.diary.frame_open(Pass::Lane(lane), self.phase);
-        self.phase
+        let phase = self.gate.phase();
+        self.gate.open(lane);
+        self.diary.frame_open(Pass::Lane(lane), phase);
+        phase
     }
 
     fn close_frame(&mut self, lane: u32) {
-        self.frames[lane as usize] = false;
+        self.gate.close(lane);
         self.diary.frame_close(Pass::Lane(lane));
     }
 
@@ -218,7 +218,7 @@ impl<S: Shape> Engine<S> for PlainHeap<S> {
     fn write_ref(&mut self, lane: u32, at: Ref, slot: u32, to: Option<Ref>) -> Option<Ref> {
         let place = at.index as usize * S::SLOTS as usize + slot as usize;
         shade_target(
-            self.phase,
+            self.gate.phase(),
             to,
             lane,
             &self.firsts,
@@ -250,7 +250,7 @@ impl<S: Shape> Engine<S> for PlainHeap<S> {
 
     fn set_root(&mut self, lane: u32, at: Ref, on: bool) -> bool {
         shade_target(
-            self.phase,
+            self.gate.phase(),
             rooting(on, at),
             lane,
             &self.firsts,
@@ -262,7 +262,7 @@ impl<S: Shape> Engine<S> for PlainHeap<S> {
     }
 
     fn dissolve(&mut self, lane: u32, at: Ref) -> Result<u32, DissolveErr> {
-        match self.phase {
+        match self.gate.phase() {
             Phase::Marking => {
                 self.diary.no_dissolve(Pass::Lane(lane), at.name);
                 return Err(DissolveErr::Marking);
@@ -332,7 +332,7 @@ impl<S: Shape> Engine<S> for PlainHeap<S> {
     }
 
     fn phase(&mut self) -> Phase {
-        self.phase
+        self.gate.phase()
     }
 
     fn left(&mut self) -> u32 {
@@ -340,10 +340,10 @@ impl<S: Shape> Engine<S> for PlainHeap<S> {
     }
 
     fn begin(&mut self) -> Begin {
-        let reply = may_start(self.phase, self.left, count_open(&self.frames));
+        let reply = may_start(self.gate.phase(), self.left, self.gate.opened());
         self.diary.begin_gc(Pass::Collector, reply);
         if starts(reply) {
-            self.phase = Phase::Marking;
+            self.gate.enter(Phase::Marking);
             self.colours.clear();
             shade_roots(
                 &self.names,
@@ -363,10 +363,10 @@ impl<S: Shape> Engine<S> for PlainHeap<S> {
         ensures held { KeepsHeld (Holds self.old) (Holds self.new) }
         ensures word { (word bits : ℕ) → result ≡ commit.Unfinished word bits → (word ≡ 0) × (bits ≡ 1) }
     {
-        let reply = may_end(self.phase, self.colours.grey(), count_open(&self.frames));
+        let reply = may_end(self.gate.phase(), self.colours.grey(), self.gate.opened());
         self.diary.commit_gc(Pass::Collector, reply);
         if is_done(reply) {
-            self.phase = Phase::Gathering;
+            self.gate.enter(Phase::Gathering);
             self.left = 0;
             self.swept = 0;
             self.queue.clear();
@@ -381,13 +381,14 @@ impl<S: Shape> Engine<S> for PlainHeap<S> {
     }
 
     fn sweep(&mut self, budget: u32, found: &mut [Name]) -> Swept {
-        match self.phase {
+        let phase = self.gate.phase();
+        match phase {
             Phase::Gathering => {}
             _ => {
                 let reply = Swept {
                     looked: 0,
                     found: 0,
-                    stop: SweepStop::NotGathering(self.phase),
+                    stop: SweepStop::NotGathering(phase),
                 };
                 self.diary.sweep(Pass::Collector, budget, reply, &[]);
                 return reply;
@@ -421,7 +422,7 @@ impl<S: Shape> Engine<S> for PlainHeap<S> {
                 .sweep(Pass::Collector, budget, reply, &found[..count as usize]);
             return reply;
         }
-        self.phase = Phase::Idle;
+        self.gate.enter(Phase::Idle);
         let reply = Swept {
             looked,
             found: count,
@@ -433,7 +434,7 @@ impl<S: Shape> Engine<S> for PlainHeap<S> {
     }
 
     fn purge<D: Hooks>(&mut self, hooks: &mut D, budget: u32) -> Purged {
-        match self.phase {
+        match self.gate.phase() {
             Phase::Gathering => {
                 self.diary
                     .purge_gc(Pass::Collector, budget, Purged::Gathering);

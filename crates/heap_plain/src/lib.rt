@@ -7,7 +7,7 @@
 mod colours;
 mod creating;
 mod filled;
-mod frames;
+mod gate;
 mod heap;
 mod life;
 mod listing;

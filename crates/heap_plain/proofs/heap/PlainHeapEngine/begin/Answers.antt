@@ -4,13 +4,13 @@ use Rattle.heap_plain.proofs.Resting.{keeps}
 use Rattle.heap_plain.proofs.BeginSteps.{refuses_begin, started, head_named, start_facts}
 use Rattle.heap_plain.proofs.heap.PlainHeapEngine.begin.Goals as goal
 
-pub count_open-requires : goal.count_open-requires
-count_open-requires g c = rw c.deref.ensures.value (omega (arith, c.self.invariant.shows.frames.lanes.len, g.S.Shape.lawful.few_lanes))
+pub opened-requires : goal.opened-requires
+opened-requires g c = omega (arith, c.self.invariant.shows.frames.lanes.len, g.S.Shape.lawful.few_lanes)
 
 pub shade_roots-requires : goal.shade_roots-requires
 shade_roots-requires g c =
     let s = c.self.invariant.shows in
-    rw (c.deref-then-starts.ensures.value, c.deref-then-starts-2.ensures.value, c.deref-then-starts-3.ensures.value, c.clear.ensures) (record {
+    rw (c.deref.ensures.value, c.deref-then-starts.ensures.value, c.deref-then-starts-2.ensures.value, c.clear.ensures) (record {
       firsts = omega (arith, s.units.firsts_len, s.roots.bits.len);
       few = omega (arith, s.roots.bits.len, g.S.Shape.lawful.few_items);
       heads = λ i. omega (arith, s.units.in_range i, s.marked_len, length-replicate (length c.self.inside.colours.marked) false);
@@ -20,17 +20,17 @@ shade_roots-requires g c =
 
 pub invariant_of-self : goal.invariant_of-self
 invariant_of-self g c =
-    let facts = start_facts _ _ _ _ (rw (c.count_open.ensures, c.deref.ensures.value) at c.may_start-reply.ensures) (sym c.starts.ensures ∙ c.if-starts.true) in
+    let facts = start_facts _ _ _ _ (rw (c.phase.ensures, c.opened.ensures) at c.may_start-reply.ensures) (sym c.starts.ensures ∙ c.if-starts.true) in
     let shaded =
-    rw (c.deref-then-starts.ensures.value, c.deref-then-starts-2.ensures.value, c.deref-then-starts-3.ensures.value, c.begin_gc.ensures, facts.0, c.clear.ensures)
+    rw (c.deref.ensures.value, c.deref-then-starts.ensures.value, c.deref-then-starts-2.ensures.value, c.begin_gc.ensures, facts.0, c.clear.ensures)
     at c.shade_roots.ensures in
-    (started c.self.invariant facts.3 facts.1 facts.2 shaded).plain
+    rw c.enter.ensures (started c.self.invariant facts.3 facts.1 facts.2 shaded).plain
 
 pub returns-then-starts-clause-entries : goal.returns-then-starts-clause-entries
 returns-then-starts-clause-entries g c =
-    let facts = start_facts _ _ _ _ (rw (c.count_open.ensures, c.deref.ensures.value) at c.may_start-reply.ensures) (sym c.starts.ensures ∙ c.if-starts.true) in
+    let facts = start_facts _ _ _ _ (rw (c.phase.ensures, c.opened.ensures) at c.may_start-reply.ensures) (sym c.starts.ensures ∙ c.if-starts.true) in
     let shaded =
-    rw (c.deref-then-starts.ensures.value, c.deref-then-starts-2.ensures.value, c.deref-then-starts-3.ensures.value, c.begin_gc.ensures, facts.0, c.clear.ensures)
+    rw (c.deref.ensures.value, c.deref-then-starts.ensures.value, c.deref-then-starts-2.ensures.value, c.begin_gc.ensures, facts.0, c.clear.ensures)
     at c.shade_roots.ensures in
     rw (← c.self.view_is) (started c.self.invariant facts.3 facts.1 facts.2 shaded).entries
 
@@ -39,12 +39,12 @@ returns-then-starts-clause-held g c = let entries = rw (← c.self.view_is) at (
 
 pub invariant_of-self-else-starts : goal.invariant_of-self-else-starts
 invariant_of-self-else-starts g c =
-    rw c.begin_gc.ensures (refuses_begin _ c.self.invariant (rw (c.count_open.ensures, c.deref.ensures.value) at c.may_start-reply.ensures) (sym c.starts.ensures ∙ c.if-starts.false)).plain
+    rw c.begin_gc.ensures (refuses_begin _ c.self.invariant (rw (c.phase.ensures, c.opened.ensures) at c.may_start-reply.ensures) (sym c.starts.ensures ∙ c.if-starts.false)).plain
 
 pub returns-clause-entries : goal.returns-clause-entries
 returns-clause-entries g c =
     rw (← c.self.view_is, c.begin_gc.ensures)
-    (refuses_begin _ c.self.invariant (rw (c.count_open.ensures, c.deref.ensures.value) at c.may_start-reply.ensures)
+    (refuses_begin _ c.self.invariant (rw (c.phase.ensures, c.opened.ensures) at c.may_start-reply.ensures)
     (sym c.starts.ensures ∙ c.if-starts.false)).entries
 
 pub returns-clause-held : goal.returns-clause-held

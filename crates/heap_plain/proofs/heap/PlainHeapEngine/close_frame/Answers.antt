@@ -4,7 +4,7 @@ use Rattle.heap_plain.proofs.heap.PlainHeapEngine.close_frame.Goals as goal
 pub invariant_of-self : goal.invariant_of-self
 invariant_of-self g c =
     let frame = rw (← c.self.view_is) at c.requires.frame in
-    rw c.frame_close.ensures (closes _ _ _ _ c.self.invariant frame.in_range frame.opened).plain
+    rw (c.frame_close.ensures, c.close.ensures) (closes _ _ _ _ c.self.invariant frame.in_range frame.opened).plain
 
 pub returns-clause-entries : goal.returns-clause-entries
 returns-clause-entries g c =

@@ -109,7 +109,7 @@ bear-requires g c =
 
 -- what the calls before the last one have written
 creation : (g : Over) (c : goal.After-make g) → Creation g.S.Shape.sizes (record {
-  gate = record { phase = c.self.inside.phase; frames = c.self.inside.frames.items };
+  gate = c.self.inside.gate;
   objects = record { names = c.self.inside.names.items; firsts = c.self.inside.firsts.items; sizes = c.self.inside.sizes.items; next = c.self.inside.next.items; lives = c.self.inside.lives.items };
   rows = record { kinds = c.self.inside.kinds.items; targets = c.self.inside.targets.items; plains = c.self.inside.plains.items };
   roots = c.self.inside.roots.items;

@@ -1,4 +1,4 @@
-use Rattle.std.proofs.Common.{◌≡◌, ◌<◌, refl, arith, get_or}
+use Rattle.std.proofs.Common.{◌∙◌, sym, ◌≡◌, ◌<◌, refl, arith, get_or}
 use Rattle.std.proofs.lemmas.List.{get_or_read}
 use Rattle.heap_plain.specs.Parts.{first_at}
 use Rattle.heap_plain.proofs.Resting.{keeps}
@@ -10,13 +10,13 @@ pub invariant_of-self : goal.invariant_of-self
 invariant_of-self g c =
     let frame = rw (← c.self.view_is) at c.requires.frame in
     let held = rw (← c.self.view_is) at c.requires.at in
-    rw c.no_dissolve.ensures (refused c.self.invariant frame held c.requires.own c.in-Marking.is).plain
+    rw c.no_dissolve.ensures (refused c.self.invariant frame held c.requires.own (sym c.phase.ensures ∙ c.in-Marking.is)).plain
 
 pub returns-in-Marking-clause-entries : goal.returns-in-Marking-clause-entries
 returns-in-Marking-clause-entries g c =
     let frame = rw (← c.self.view_is) at c.requires.frame in
     let held = rw (← c.self.view_is) at c.requires.at in
-    rw (← c.self.view_is, c.no_dissolve.ensures) (refused c.self.invariant frame held c.requires.own c.in-Marking.is).entries
+    rw (← c.self.view_is, c.no_dissolve.ensures) (refused c.self.invariant frame held c.requires.own (sym c.phase.ensures ∙ c.in-Marking.is)).entries
 
 pub returns-in-Marking-clause-held : goal.returns-in-Marking-clause-held
 returns-in-Marking-clause-held g c = let entries = rw (← c.self.view_is) at (returns-in-Marking-clause-entries g c) in rw (← c.self.view_is) (keeps entries refl _)
@@ -58,7 +58,7 @@ loop-left-init g c =
     get_or_read c.self.inside.firsts.items _ _ (omega (arith, below, s.units.firsts_len)) c.index-head.ensures 0 in
     let count : c.index-count.result.now ≡ get_or c.self.inside.sizes.items (first_at c.self.inside.firsts.items c.args.at.index) 0 =
     get_or_read c.self.inside.sizes.items _ _ (omega (arith, under, s.units.sizes_len)) (rw head at c.index-count.ensures) 0 in
-    rw (← c.self.view_is, head, count) (starts c.self.invariant frame held c.requires.own c.in_default.not-Marking _ _ (rw (c.deref.ensures.value, head, count) at c.list_unit.ensures) (room c.self.invariant frame held c.requires.own))
+    rw (← c.self.view_is, head, count) (starts c.self.invariant frame held c.requires.own (λ e. c.in_default.not-Marking (c.phase.ensures ∙ e)) _ _ (rw (c.deref.ensures.value, head, count) at c.list_unit.ensures) (room c.self.invariant frame held c.requires.own))
 
 pub named-requires : goal.named-requires
 named-requires g c =

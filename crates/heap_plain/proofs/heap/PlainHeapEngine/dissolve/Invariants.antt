@@ -4,7 +4,7 @@ use Rattle.heap_plain.proofs.heap.PlainHeapEngine.dissolve.Given as goal
 
 abbrev pub invariant-loop-left : goal.invariant-loop-left
 invariant-loop-left g l = IsParting g.S.Shape.sizes l.fn.self l.lane l.at.name l.head l.count l.left l.members (record {
-  gate = record { phase = l.self-inside.phase; frames = l.self-inside.frames.items };
+  gate = l.self-inside.gate;
   objects = record { names = l.self-inside.names.items; firsts = l.self-inside.firsts.items; sizes = l.self-inside.sizes.items; next = l.self-inside.next.items; lives = l.self-inside.lives.items };
   rows = record { kinds = l.self-inside.kinds.items; targets = l.self-inside.targets.items; plains = l.self-inside.plains.items };
   roots = l.self-inside.roots.items;

@@ -7,7 +7,7 @@ abbrev pub invariant-loop-self : goal.invariant-loop-self
 invariant-loop-self g l = record {
   small : l.scanned ≤ 1024 * l.self-inside.colours.scanned;
   slicing : IsSlicing g.S.Shape.sizes l.fn.self l.marker l.budget l.scanned (record {
-    gate = record { phase = l.self-inside.phase; frames = l.self-inside.frames.items };
+    gate = l.self-inside.gate;
     objects = record { names = l.self-inside.names.items; firsts = l.self-inside.firsts.items; sizes = l.self-inside.sizes.items; next = l.self-inside.next.items; lives = l.self-inside.lives.items };
     rows = record { kinds = l.self-inside.kinds.items; targets = l.self-inside.targets.items; plains = l.self-inside.plains.items };
     roots = l.self-inside.roots.items;

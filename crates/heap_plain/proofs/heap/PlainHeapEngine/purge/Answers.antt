@@ -1,4 +1,4 @@
-use Rattle.std.proofs.Common.{◌≡◌, ◌<◌, ◌^◌, refl, arith, get_or}
+use Rattle.std.proofs.Common.{◌≡◌, ◌<◌, ◌^◌, ◌∙◌, refl, sym, arith, get_or}
 use Rattle.std.proofs.lemmas.List.{get_or_read}
 use Rattle.world_model.specs.Sizes.{item_count}
 use Rattle.world_model.specs.Histories.{after}
@@ -9,10 +9,10 @@ use Rattle.heap_plain.proofs.heap.PlainHeapEngine.purge.Goals.{then-loop-steps-t
 use Rattle.heap_plain.proofs.heap.PlainHeapEngine.purge.Goals as goal
 
 pub invariant_of-self : goal.invariant_of-self
-invariant_of-self g c = rw c.purge_gc.ensures (waits _ c.self.invariant c.in-Gathering.is).plain
+invariant_of-self g c = rw c.purge_gc.ensures (waits _ c.self.invariant (sym c.phase.ensures ∙ c.in-Gathering.is)).plain
 
 pub returns-in-Gathering-clause-entries : goal.returns-in-Gathering-clause-entries
-returns-in-Gathering-clause-entries g c = rw (← c.self.view_is, c.purge_gc.ensures) (waits _ c.self.invariant c.in-Gathering.is).entries
+returns-in-Gathering-clause-entries g c = rw (← c.self.view_is, c.purge_gc.ensures) (waits _ c.self.invariant (sym c.phase.ensures ∙ c.in-Gathering.is)).entries
 
 pub returns-in-Gathering-clause-calls : goal.returns-in-Gathering-clause-calls
 returns-in-Gathering-clause-calls g c = rw (← c.self.view_is, c.purge_gc.ensures) (waits_calls (after c.self.inside.diary) c.self.inside.diary c.args.budget (g.D.Hooks.calls c.args.hooks.now))
@@ -21,7 +21,7 @@ pub returns-in-Gathering-clause-held : goal.returns-in-Gathering-clause-held
 returns-in-Gathering-clause-held g c = let entries = rw (← c.self.view_is) at (returns-in-Gathering-clause-entries g c) in rw (← c.self.view_is) (keeps entries refl _)
 
 pub loop-steps-init : goal.loop-steps-init
-loop-steps-init g c = rw (← c.self.view_is) (record { within = omega arith; purging = purge_starts _ _ _ _ _ c.self.invariant refl c.in_default.not-Gathering })
+loop-steps-init g c = rw (← c.self.view_is) (record { within = omega arith; purging = purge_starts _ _ _ _ _ c.self.invariant refl (λ e. c.in_default.not-Gathering (c.phase.ensures ∙ e)) })
 
 pub begin_at-requires : goal.begin_at-requires
 begin_at-requires g c =

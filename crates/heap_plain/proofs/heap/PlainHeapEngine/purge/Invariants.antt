@@ -6,7 +6,7 @@ abbrev pub invariant-loop-steps : goal.invariant-loop-steps
 invariant-loop-steps g l = record {
   within : l.steps ≤ l.budget;
   purging : IsPurging g.S.Shape.sizes l.fn.self (g.D.Hooks.calls l.fn.hooks) (g.D.Hooks.calls l.hooks) (g.D.Hooks.test l.fn.hooks) (g.D.Hooks.test l.hooks) l.steps (record {
-    gate = record { phase = l.self-inside.phase; frames = l.self-inside.frames.items };
+    gate = l.self-inside.gate;
     objects = record { names = l.self-inside.names.items; firsts = l.self-inside.firsts.items; sizes = l.self-inside.sizes.items; next = l.self-inside.next.items; lives = l.self-inside.lives.items };
     rows = record { kinds = l.self-inside.kinds.items; targets = l.self-inside.targets.items; plains = l.self-inside.plains.items };
     roots = l.self-inside.roots.items;

@@ -9,7 +9,7 @@ shade_target-requires g c =
     let frame = rw (← c.self.view_is) at c.requires.frame in
     let held = rw (← c.self.view_is) at c.requires.at in
     let s = c.self.invariant.shows in
-    rw (c.deref.ensures.value, c.rooting.ensures) (record {
+    rw (c.phase.ensures, c.deref.ensures.value, c.rooting.ensures) (record {
       index = stored_index c.self.invariant frame held _ (stored_root c.self.invariant frame held c.args.on);
       heads = λ i. omega (arith, s.units.in_range i, s.marked_len);
       room = stored_room c.self.invariant frame held _ (stored_root c.self.invariant frame held c.args.on);
@@ -25,14 +25,14 @@ pub invariant_of-self : goal.invariant_of-self
 invariant_of-self g c =
     let frame = rw (← c.self.view_is) at c.requires.frame in
     let held = rw (← c.self.view_is) at c.requires.at in
-    let barred = rw (c.deref.ensures.value, c.rooting.ensures) at c.shade_target.ensures in
+    let barred = rw (c.phase.ensures, c.deref.ensures.value, c.rooting.ensures) at c.shade_target.ensures in
     rw (c.store.ensures.entry, c.store.ensures.bits) (sets_root c.self.invariant frame held c.args.on _ c.store.ensures.was barred).plain
 
 pub returns-clause-entries : goal.returns-clause-entries
 returns-clause-entries g c =
     let frame = rw (← c.self.view_is) at c.requires.frame in
     let held = rw (← c.self.view_is) at c.requires.at in
-    let barred = rw (c.deref.ensures.value, c.rooting.ensures) at c.shade_target.ensures in
+    let barred = rw (c.phase.ensures, c.deref.ensures.value, c.rooting.ensures) at c.shade_target.ensures in
     rw (← c.self.view_is, c.store.ensures.entry) (sets_root c.self.invariant frame held c.args.on _ c.store.ensures.was barred).entries
 
 pub returns-clause-held : goal.returns-clause-held

@@ -10,7 +10,7 @@ shade_target-requires g c =
     let frame = rw (← c.self.view_is) at c.requires.frame in
     let held = rw (← c.self.view_is) at c.requires.at in
     let to = rw (← c.self.view_is) at c.requires.to in
-    rw c.deref.ensures.value (record {
+    rw (c.phase.ensures, c.deref.ensures.value) (record {
       index = stored_index c.self.invariant frame held c.args.to to;
       heads = λ i. omega (arith, c.self.invariant.shows.units.in_range i, c.self.invariant.shows.marked_len);
       room = stored_room c.self.invariant frame held c.args.to to;
@@ -55,7 +55,7 @@ invariant_of-self g c =
     let cell : c.index.result.now ≡ target_at g.S.Shape.sizes.slots c.self.inside.targets.items c.args.at.index c.args.slot =
     get_or_read c.self.inside.targets.items _ _ place (rw (c.SLOTS.ensures, g.S.Shape.constants.slots) at c.index.ensures) None in
     let refers = rw (c.deref-2.ensures.value, cell) at c.referred-old.ensures in
-    let done = writes c.self.invariant frame held c.args.slot slot _ refers c.args.to to (rw c.deref.ensures.value at c.shade_target.ensures) in
+    let done = writes c.self.invariant frame held c.args.slot slot _ refers c.args.to to (rw (c.phase.ensures, c.deref.ensures.value) at c.shade_target.ensures) in
     rw (c.write_ref.ensures, c.index_of.ensures, c.name_of.ensures, c.name_of-2.ensures, c.SLOTS.ensures, g.S.Shape.constants.slots) done.done.plain
 
 pub returns-clause-entries : goal.returns-clause-entries
@@ -68,7 +68,7 @@ returns-clause-entries g c =
     let cell : c.index.result.now ≡ target_at g.S.Shape.sizes.slots c.self.inside.targets.items c.args.at.index c.args.slot =
     get_or_read c.self.inside.targets.items _ _ place (rw (c.SLOTS.ensures, g.S.Shape.constants.slots) at c.index.ensures) None in
     let refers = rw (c.deref-2.ensures.value, cell) at c.referred-old.ensures in
-    let done = writes c.self.invariant frame held c.args.slot slot _ refers c.args.to to (rw c.deref.ensures.value at c.shade_target.ensures) in
+    let done = writes c.self.invariant frame held c.args.slot slot _ refers c.args.to to (rw (c.phase.ensures, c.deref.ensures.value) at c.shade_target.ensures) in
     rw (← c.self.view_is, c.write_ref.ensures, c.name_of.ensures, c.name_of-2.ensures) done.done.entries
 
 pub returns-clause-given : goal.returns-clause-given
@@ -81,7 +81,7 @@ returns-clause-given g c =
     let cell : c.index.result.now ≡ target_at g.S.Shape.sizes.slots c.self.inside.targets.items c.args.at.index c.args.slot =
     get_or_read c.self.inside.targets.items _ _ place (rw (c.SLOTS.ensures, g.S.Shape.constants.slots) at c.index.ensures) None in
     let refers = rw (c.deref-2.ensures.value, cell) at c.referred-old.ensures in
-    let done = writes c.self.invariant frame held c.args.slot slot _ refers c.args.to to (rw c.deref.ensures.value at c.shade_target.ensures) in
+    let done = writes c.self.invariant frame held c.args.slot slot _ refers c.args.to to (rw (c.phase.ensures, c.deref.ensures.value) at c.shade_target.ensures) in
     rw (c.write_ref.ensures, c.name_of.ensures, c.name_of-2.ensures) done.given
 
 pub returns-clause-held : goal.returns-clause-held
