@@ -15,8 +15,9 @@ use Rattle.world_model.specs.Reach.{graph, IsUnit, IsRootUnit}
 use Rattle.world_model.specs.Next.{next, run}
 use Rattle.world_model.specs.Histories.{LegalFrom, MayBy, after, state_of}
 use Rattle.world_model.specs.Calls.{by}
+use Rattle.world_model.specs.Midway.{AreApart}
 use Rattle.world_model.proofs.ListFacts.{Among, contains_among, and_true, among_test, among_right}
-use Rattle.world_model.proofs.Units.{AreApart, units_apart}
+use Rattle.world_model.proofs.Units.{units_apart}
 use Rattle.world_model.proofs.Barrier.{member_lives, own_unit}
 use Rattle.world_model.proofs.Removals.{named_lives_holds}
 use Rattle.heap_plain.specs.Types.{Name, Kind, Phase, Idle, Marking, Gathering, Begin, Collector, Entry}
@@ -35,6 +36,7 @@ use Rattle.heap_plain.proofs.Entries.{Done, does}
 use Rattle.heap_plain.proofs.Standing.{member_at, bit_below, name_below, lives_at}
 use Rattle.heap_plain.proofs.MarkSteps.{mark_one}
 use Rattle.heap_plain.proofs.Shadings.{shades_len}
+use Rattle.world_model.proofs.Quiet.{any_none}
 
 -- ---- refusals
 
@@ -86,10 +88,6 @@ among_names_at names (y ∷ xs) x n (inr a) e = among_right (option_to_list (nam
 none_any : (u : List Name) → list_any (λ n. has [] n || has [] n) u ≡ false
 none_any [] = refl
 none_any (n ∷ u) = none_any u
-
-none_has : (u : List Name) → list_any (has []) u ≡ true → ⊥
-none_has [] e = cc
-none_has (n ∷ u) e = none_has u e
 
 -- what the notes of these units do from a state on
 pub record KeepRun (z : Sizes) (o : Objects) (c : Painted) (s : State) (of : List Name) : Type 0 where
@@ -146,7 +144,7 @@ keep_run z o roots s earlier c (head ∷ heads) count apart ns us rs living mark
     let rest = keep_run z o roots (next s entry) s.marks.moments (greyed c head) heads count apart ns us rs living marking started refl refl black
     (length-set c.marked head true ∙ len)
     (mark_one ns us apart head u n stands member.2 can.1 inside
-    (λ e. absurd (none_has u (subst (λ (ns : List Name). list_any (has ns) u ≡ true) black e))) marks) can.2 in
+    (λ e. absurd (any_none u (subst (λ (ns : List Name). list_any (has ns) u ≡ true) black e))) marks) can.2 in
     let may : MayBy z s Collector (act.Kept n) = record {
       finishes = agreed;
       may = record {
@@ -181,7 +179,7 @@ unmarked o units n = record {
   worklist = record { distinct = tt; set = λ head a. absurd a };
   order = omega arith;
   grey_units = λ head a. absurd a;
-  all_grey = λ head u t e. absurd (none_has u (and_true _ _ e).0);
+  all_grey = λ head u t e. absurd (any_none u (and_true _ _ e).0);
 }
 
 module _ {z : Sizes} {p : Parts} {h new : List Entry} {c : Painted} (was : IsPlain z p h)

@@ -47,7 +47,7 @@ use Rattle.heap_plain.proofs.Cells.{cells_less}
 use Rattle.heap_plain.proofs.Restaging.{free_lives}
 use Rattle.heap_plain.proofs.NewNames.{members_among}
 use Rattle.heap_plain.proofs.BeginSteps.{none_of_none}
-use Rattle.heap_plain.proofs.SliceSteps.{filter_none, grey_empty}
+use Rattle.heap_plain.proofs.SliceSteps.{filter_none, grey_empty, not_true}
 
 -- ---- the worklist and the grey units
 
@@ -160,10 +160,6 @@ none_at_end (m ∷ names) n = rw (none_at_end names n) (go (same_name n m))
     go false = refl
 
 -- ---- a collection commits
-
-not_flip : (b : Bool) → not b ≡ true → b ≡ false
-not_flip false e = refl
-not_flip true e = absurd cc
 
 module _ {z : Sizes} {p : Parts} {h : List Entry} {lives : List Life} (was : IsPlain z p h) (marking : p.phase ≡ Marking)
     (black : length p.listed - p.scanned ≡ 0) (open_none : count_by (λ is_open. is_open) p.frames ≡ 0)
@@ -294,7 +290,7 @@ module _ {z : Sizes} {p : Parts} {h : List Entry} {lives : List Life} (was : IsP
   white_member : (n : Name) → Among (members white) n → (i : ℕ) × LivesAt p.names p.lives i n × (bit i ≡ false)
   white_member n a =
       let v = among_members white n a in
-      let unmarked = not_flip _ (among_filter_test (λ u. not (is_marked m u)) w.units v.0 v.1) in
+      let unmarked = not_true _ (among_filter_test (λ u. not (is_marked m u)) w.units v.0 v.1) in
       let at = s.units.all v.0 (among_filter (λ u. not (is_marked m u)) w.units v.0 v.1) in
       let j = at.1.inside n v.2 in
       (j.0, j.1, member_bit at.0 v.0 at.1 j.0 j.2 ∙ unmarked)
@@ -395,7 +391,7 @@ module _ {z : Sizes} {p : Parts} {h : List Entry} {lives : List Life} (was : IsP
         (r.0, lies_white (first_at p.firsts i) r.0 r.1 (sym (member_bit (first_at p.firsts i) r.0 r.1 i refl) ∙ l.1));
     all = λ u n a e still.
         let r = s.units.all u (among_filter (λ u. not (is_marked m u)) w.units u a) in
-        (r.0, lies_white r.0 u r.1 (not_flip _ (among_filter_test (λ u. not (is_marked m u)) w.units u a)));
+        (r.0, lies_white r.0 u r.1 (not_true _ (among_filter_test (λ u. not (is_marked m u)) w.units u a)));
   }
 
   -- what was free is free, and what is free was

@@ -48,7 +48,8 @@ use Rattle.heap_plain.proofs.Finding.{removed_same_names}
 use Rattle.heap_plain.proofs.Standing.{one_head, live_used, links_same, lives_at}
 use Rattle.heap_plain.proofs.MarkSteps.{set_still}
 use Rattle.heap_plain.proofs.Popping.{lane_below, Where, where_is, popped_lane, popped_free, free_popped}
-use Rattle.heap_plain.proofs.NewNames.{length-names_from, has_in_row, row_place, count_row}
+use Rattle.heap_plain.proofs.NewNames.{length-names_from, has_in_row, row_place}
+use Rattle.world_model.proofs.Places.{new_in_lane}
 
 -- a creation, and what its writes leave of the vectors
 pub record Creation (z : Sizes) (p : Parts) (h : List Entry) (l m : ℕ) (more : List Kind) (ns : List (Option Name)) (fs nx : List ℕ) (ks : List Kind)
@@ -324,7 +325,7 @@ module _ {z : Sizes} {p : Parts} {h : List Entry} {l m : ℕ} {more : List Kind}
       let live : count_by (λ n. n.lane == k) (members new_units)
       ≡ count_by (λ n. n.lane == k) (members (after h).units) + count_by (λ n. n.lane == k) unit =
       ap (λ (x : List Name). count_by (λ n. n.lane == k) x) all_members ∙ sum_by-append _ (members (after h).units) unit in
-      omega (arith, count_row l (m + 1) k more))
+      omega (arith, new_in_lane l (m + 1) k more))
 
   -- ---- roots
 

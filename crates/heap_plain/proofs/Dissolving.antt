@@ -11,11 +11,12 @@ use Rattle.world_model.specs.Histories.{May, Legal, after, state_of}
 use Rattle.world_model.specs.Engines.{IsInFrame}
 use Rattle.world_model.specs.Calls.{by, Appends}
 use Rattle.world_model.specs.Follows.{MayAsk}
+use Rattle.world_model.specs.Midway.{IsMidway}
 use Rattle.world_model.proofs.Joins.{histories_join, by-append}
 use Rattle.world_model.proofs.Inductions.{one_more}
 use Rattle.world_model.proofs.Loosening.{ends_some}
 use Rattle.world_model.proofs.Dissolving.{none_loosened}
-use Rattle.world_model.proofs.Answering.{IsMidway, starts_midway, last_of, leaves, midway1, ready_closes}
+use Rattle.world_model.proofs.Answering.{starts_midway, last_of, leaves, midway1, ready_closes}
 use Rattle.heap_plain.specs.Types.{Name, Ref, Lane, Marking, Entry}
 use Rattle.heap_plain.specs.Types.act
 use Rattle.heap_plain.specs.Parts.{Parts, Objects, Shown, Holds, name_at, first_at}

@@ -9,7 +9,7 @@ use Rattle.world_model.specs.NameLists.{same_pass, has}
 use Rattle.world_model.specs.World.{is_open}
 use Rattle.world_model.specs.State.{Frame, no_frame}
 use Rattle.world_model.specs.Histories.{after, state_of}
-use Rattle.world_model.proofs.Frames.{same_pass_true, few_open_holds}
+use Rattle.world_model.proofs.Frames.{same_pass_true, few_open_holds, any_kept}
 use Rattle.world_model.proofs.Inductions.{one_more}
 use Rattle.world_model.proofs.Removals.{held_lives_holds}
 use Rattle.heap_plain.specs.Types.{Ref, Pass, Lane, Entry}
@@ -17,7 +17,7 @@ use Rattle.heap_plain.specs.Types.act
 use Rattle.heap_plain.specs.Parts.{Parts, Holds}
 use Rattle.heap_plain.specs.Gates.{FramesShow}
 use Rattle.heap_plain.specs.Plain.{IsPlain}
-use Rattle.heap_plain.proofs.WorldFacts.{at_set, set_at_other, same_pass_refl, any_left, any_kept, one_out}
+use Rattle.heap_plain.proofs.WorldFacts.{at_set, set_at_other, same_pass_refl, any_left, one_out}
 use Rattle.heap_plain.proofs.Fillings.{Lists-set}
 use Rattle.heap_plain.proofs.Resting.{in_open}
 use Rattle.heap_plain.proofs.Entries.{Done, does}

@@ -7,7 +7,7 @@ use Rattle.world_model.specs.NameLists.{same_name, has, members, begins_with}
 use Rattle.world_model.specs.World.{Removal, Removed as AtRemoved}
 use Rattle.world_model.proofs.ListFacts.{Among, among_filter, among_filter_test, among_test}
 use Rattle.world_model.proofs.NameFacts.{same_name_true, same_name_refl, among_members, among_has, has_among}
-use Rattle.world_model.proofs.Queues.{unit_in_order}
+use Rattle.world_model.proofs.Queues.{unit_in_order, begins_among}
 use Rattle.world_model.proofs.Destroying.{order_of}
 use Rattle.heap_plain.specs.Types.{Name, Kind, Gathering}
 use Rattle.heap_plain.specs.declared.life.Life.{Life}
@@ -25,12 +25,9 @@ use Rattle.heap_plain.proofs.Listings.{linked_named, linked_member}
 use Rattle.heap_plain.proofs.Queueing.{named_append, named_in}
 use Rattle.heap_plain.proofs.SliceSteps.{filter_none}
 use Rattle.heap_plain.proofs.CommitSteps.{distinct_left, distinct_right, distinct_both}
+use Rattle.world_model.proofs.Turns.{begins_both}
 
 -- ---- the unit that begins with a name
-
-pub first_among : (n : Name) (u : List Name) → begins_with n u ≡ true → Among u n
-first_among n [] e = absurd cc
-first_among n (m ∷ u) e = inl (sym (same_name_true n m e))
 
 -- a unit of different names is one of the units at one place
 pub filter_one : (n : Name) (units : List (List Name)) (u : List Name) → Distinct (members units) → Among units u → begins_with n u ≡ true → filter (begins_with n) units ≡ u ∷ []
@@ -38,7 +35,7 @@ filter_one n [] u d a e = absurd a
 filter_one n (v ∷ units) u d a e = go (begins_with n v) refl a (filter_one n units u (distinct_right v (members units) d))
   where
     out : begins_with n v ≡ true → (x : List Name) → Among units x → begins_with n x ≡ true → ⊥
-    out is x b f = distinct_both v (members units) d n (first_among n v is) (members_among units x n b (among_has x n (first_among n x f)))
+    out is x b f = distinct_both v (members units) d n (begins_among n v is) (members_among units x n b (among_has x n (begins_among n x f)))
 
     go : (b : Bool) → begins_with n v ≡ b → (v ≡ u) ⊎ Among units u → (Among units u → begins_with n u ≡ true → filter (begins_with n) units ≡ u ∷ [])
         → cond b (v ∷ filter (begins_with n) units) (filter (begins_with n) units) ≡ u ∷ []
@@ -61,10 +58,6 @@ same_unit (w ∷ units) u v n d (inl e) (inl f) i j = sym e ∙ f
 same_unit (w ∷ units) u v n d (inl e) (inr b) i j = absurd (distinct_both w (members units) d n (subst (λ (x : List Name). Among x n) (sym e) i) (members_among units v n b (among_has v n j)))
 same_unit (w ∷ units) u v n d (inr a) (inl f) i j = absurd (distinct_both w (members units) d n (subst (λ (x : List Name). Among x n) (sym f) j) (members_among units u n a (among_has u n i)))
 same_unit (w ∷ units) u v n d (inr a) (inr b) i j = same_unit units u v n (distinct_right w (members units) d) a b i j
-
-begins_both : (n m : Name) (u : List Name) → begins_with n u ≡ true → begins_with m u ≡ true → n ≡ m
-begins_both n m [] a b = absurd cc
-begins_both n m (x ∷ u) a b = same_name_true n x a ∙ sym (same_name_true m x b)
 
 distinct_units : (n : Name) (units : List (List Name)) → Distinct (members units) → Distinct (members (filter (begins_with n) units))
 distinct_units n [] d = tt
@@ -162,7 +155,7 @@ module _ {z : Sizes} {o : Objects} {kinds : ℕ → List Kind} {waiting polls : 
       there n e at false own =
           let none = filter_none (begins_with n) units (λ v a f.
           let known : still_there removals n ≡ true = among_test (λ r. same_name n r.name) removals (removal_at o.lives polls i n) (rs.removed i n at (ap is_gone e)) (same_name_refl n) in
-          let r = gs.all v n a (among_has v n (first_among n v f)) known in
+          let r = gs.all v n a (among_has v n (begins_among n v f)) known in
           let same = ns.alone r.0 i n (head_first r.0 v n r.1 f) at in
           eqb-false (first_at o.firsts i) i own (ap (first_at o.firsts) (sym same) ∙ r.1.own ∙ same)) in
           rw none tt

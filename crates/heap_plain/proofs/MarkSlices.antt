@@ -12,11 +12,12 @@ use Rattle.world_model.specs.Next.{next, run}
 use Rattle.world_model.specs.MarkerSteps.{member_count, WasWithin, MayStop}
 use Rattle.world_model.specs.Histories.{MayBy, LegalFrom, Legal, after, state_of}
 use Rattle.world_model.specs.Calls.{by, is_mark_note, Appends}
+use Rattle.world_model.specs.Midway.{AreApart}
 use Rattle.world_model.proofs.ListFacts.{Among, and_true}
 use Rattle.world_model.proofs.NameFacts.{set_at_same}
-use Rattle.world_model.proofs.Units.{AreApart, units_apart}
+use Rattle.world_model.proofs.Units.{units_apart}
 use Rattle.world_model.proofs.Barrier.{barred}
-use Rattle.world_model.proofs.Joins.{legal_join, legal_split}
+use Rattle.world_model.proofs.Joins.{legal_join, legal_split, by-append}
 use Rattle.heap_plain.specs.Types.{Name, Ref, Pass, Marker, Marking, MarkStop, Marked, Act, Entry}
 use Rattle.heap_plain.specs.Types.act
 use Rattle.heap_plain.specs.Types.stop
@@ -30,7 +31,6 @@ use Rattle.heap_plain.specs.Colouring.{MarksShow}
 use Rattle.heap_plain.specs.Destroying.{Destroying}
 use Rattle.heap_plain.specs.Plain.{ShowsWorld, Shows, IsPlain, Sliced, IsSlicing}
 use Rattle.heap_plain.proofs.WorldFacts.{same_pass_refl, none_out, state_more}
-use Rattle.heap_plain.proofs.Noting.{by-append}
 use Rattle.heap_plain.proofs.Shadings.{shades_len}
 use Rattle.heap_plain.proofs.Resting.{rests, keeps}
 use Rattle.heap_plain.proofs.Entries.{Done}

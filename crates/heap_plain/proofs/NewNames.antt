@@ -39,28 +39,6 @@ distinct_row lane first [] = tt
 distinct_row lane first (k ∷ kinds) =
     ((λ among. let range = names_from_range lane (first + 1) kinds _ (among_has _ _ among) in absurd (omega (arith, range.1))), distinct_row lane (first + 1) kinds)
 
--- how many names of the row are of a lane
-count_row_own : (lane first k : ℕ) (kinds : List Kind) → (lane == k) ≡ true → count_by (λ n. n.lane == k) (names_from lane first kinds) ≡ length kinds
-count_row_own lane first k [] e = refl
-count_row_own lane first k (kind ∷ kinds) e =
-    let one = count-cons (λ n. n.lane == k) (record { lane = lane; count = first }) (names_from lane (first + 1) kinds) in
-    let bit : cond {A = ℕ} (lane == k) 1 0 ≡ 1 = ap (λ (b : Bool). cond {A = ℕ} b 1 0) e in
-    omega (arith, count_row_own lane (first + 1) k kinds e)
-
-count_row_other : (lane first k : ℕ) (kinds : List Kind) → (lane == k) ≡ false → count_by (λ n. n.lane == k) (names_from lane first kinds) ≡ 0
-count_row_other lane first k [] e = refl
-count_row_other lane first k (kind ∷ kinds) e =
-    let one = count-cons (λ n. n.lane == k) (record { lane = lane; count = first }) (names_from lane (first + 1) kinds) in
-    let bit : cond {A = ℕ} (lane == k) 1 0 ≡ 0 = ap (λ (b : Bool). cond {A = ℕ} b 1 0) e in
-    omega (arith, count_row_other lane (first + 1) k kinds e)
-
-pub count_row : (lane first k : ℕ) (kinds : List Kind) → count_by (λ n. n.lane == k) (names_from lane first kinds) ≡ cond (lane == k) (length kinds) 0
-count_row lane first k kinds = go (lane == k) refl
-  where
-    go : (b : Bool) → (lane == k) ≡ b → count_by (λ n. n.lane == k) (names_from lane first kinds) ≡ cond b (length kinds) 0
-    go true e = count_row_own lane first k kinds e
-    go false e = count_row_other lane first k kinds e
-
 -- the references whose names are in a row
 pub names_of_row : (lane first : ℕ) (kinds : List Kind) (out : List Ref) → length out ≡ length kinds
     → ((k : ℕ) (d : Ref) → k < length out → (get_or out k d).name ≡ record { lane = lane; count = first + k })

@@ -13,8 +13,6 @@ names_at-append names (x ∷ xs) ys =
     ap (λ (zs : List Name). option_to_list (name_at names x) ++ zs) (names_at-append names xs ys)
     ∙ sym (append_assoc (option_to_list (name_at names x)) (names_at names xs) (names_at names ys))
 
-pub by-append : (p : Pass) (xs ys : List Act) → by p (xs ++ ys) ≡ by p xs ++ by p ys
-by-append p xs ys = map-append (λ (a : Act). record { pass = p; act = a }) xs ys
 
 pub one_name : (names : List (Option Name)) (i : ℕ) (n : Name) → name_at names i ≡ Some n → names_at names (i ∷ []) ≡ n ∷ []
 one_name names i n e = ap (λ (o : Option Name). option_to_list o ++ []) e

@@ -9,10 +9,10 @@ use Rattle.std.proofs.lemmas.List.{length-set, get_or-set_same, get_or-set_other
 use Rattle.world_model.specs.Sizes.{Sizes, item_count}
 use Rattle.world_model.specs.NameLists.{same_name, has, all_different, ends_with, but_last, parted}
 use Rattle.world_model.specs.World.{Removal}
+use Rattle.world_model.specs.Midway.{AreApart}
 use Rattle.world_model.proofs.ListFacts.{Among, or_true}
 use Rattle.world_model.proofs.NameFacts.{same_name_refl, member_of_one}
 use Rattle.world_model.proofs.Loosening.{ends_splits, ends_has, ends_own, different_left, among_parted, which_part, parted_among, first_part, last_part, whole_part}
-use Rattle.world_model.proofs.Units.{AreApart}
 use Rattle.heap_plain.specs.Types.{Name, Kind}
 use Rattle.heap_plain.specs.declared.life.Life.TheVariants.{Live}
 use Rattle.heap_plain.specs.Parts.{Objects, name_at, life_at, first_at, next_at, is_gone}

@@ -14,12 +14,13 @@ use Rattle.world_model.specs.State.{State}
 use Rattle.world_model.specs.Next.{polled, at_stage}
 use Rattle.world_model.specs.Histories.{MayBy, Legal, LegalFrom, state_of}
 use Rattle.world_model.specs.Calls.{by}
+use Rattle.world_model.specs.DestructionQueue.{IsQueue, in_order}
 use Rattle.world_model.proofs.ListFacts.{Among, among_filter_test}
 use Rattle.world_model.proofs.NameFacts.{same_name_true, same_name_refl, has_among, among_has, among_members}
 use Rattle.world_model.proofs.Counts.{count-cons}
 use Rattle.world_model.proofs.Sound.{IsSound, sound}
 use Rattle.world_model.proofs.Rounds.{in_removals_at, one_stage, is_at-at_stage_same, is_at-at_stage_other, is_at-polled}
-use Rattle.world_model.proofs.Queues.{IsQueue, in_order, queue_begin, queue_begun, queue_ask, queue_refused, queue_agreed, queue_least, unit_in_order}
+use Rattle.world_model.proofs.Queues.{queue_begin, queue_begun, queue_ask, queue_refused, queue_agreed, queue_least, unit_in_order}
 use Rattle.heap_plain.specs.Types.{Name, Phase, Idle, Gathering, Collector, Entry}
 use Rattle.heap_plain.specs.Types.act
 use Rattle.heap_plain.specs.declared.life.Life.{Life}

@@ -10,11 +10,12 @@ use Rattle.world_model.specs.State.{State}
 use Rattle.world_model.specs.Next.{released}
 use Rattle.world_model.specs.Histories.{MayBy, state_of}
 use Rattle.world_model.specs.Follows.{freed_by}
+use Rattle.world_model.specs.DestructionQueue.{IsQueue}
 use Rattle.world_model.proofs.ListFacts.{Among, among_filter, among_filter_test, filter_among, among_test, test_among}
 use Rattle.world_model.proofs.NameFacts.{same_name_true, has_among, among_has}
 use Rattle.world_model.proofs.Counts.{names_of, next_total}
 use Rattle.world_model.proofs.Rounds.{in_removals_at, one_stage, is_at-released}
-use Rattle.world_model.proofs.Queues.{IsQueue, queue_begun, queue_release, ready_unit, unit_in_order, names_left, all_at}
+use Rattle.world_model.proofs.Queues.{queue_begun, queue_release, ready_unit, unit_in_order, names_left, all_at, begins_among}
 use Rattle.world_model.proofs.Sound.{IsSound, sound}
 use Rattle.world_model.proofs.Removals.{held_lives_holds, named_lives_holds}
 use Rattle.heap_plain.specs.Types.{Name, Phase, Idle, Collector, Entry}
@@ -39,7 +40,7 @@ use Rattle.heap_plain.proofs.Standing.{name_below, links_same, lives_at}
 use Rattle.heap_plain.proofs.Listings.{linked_member}
 use Rattle.heap_plain.proofs.BeginSteps.{left_idle}
 use Rattle.heap_plain.proofs.SweepSteps.{name_among, among_name}
-use Rattle.heap_plain.proofs.Gathering.{first_among, filter_one, same_unit, distinct_unit}
+use Rattle.heap_plain.proofs.Gathering.{filter_one, same_unit, distinct_unit}
 use Rattle.heap_plain.proofs.Queueing.{named_none}
 use Rattle.heap_plain.proofs.Emptying.{Emptying, Emptied, Empties, empties}
 use Rattle.heap_plain.proofs.Restaging.{gone_index, free_lives}
@@ -132,7 +133,7 @@ module _ {z : Sizes} {p : Parts} {h : List Entry} (amid : IsAmid z p h) (idle : 
   in_units = (unit_in_order w.last_removed w.found u to_go.1).0
 
   first_in : Among u n
-  first_in = first_among n u to_go.3
+  first_in = begins_among n u to_go.3
 
   lies : LiesAt p.objects p.waiting w.removals w.last_removed head u
   lies =

@@ -10,9 +10,10 @@ use Rattle.world_model.specs.LaneSteps.{PaysFor, InOpenFrame}
 use Rattle.world_model.specs.Next.{next}
 use Rattle.world_model.specs.Histories.{MayBy, after, state_of}
 use Rattle.world_model.specs.Engines.{IsInFrame}
+use Rattle.world_model.specs.Midway.{AreApart}
 use Rattle.world_model.proofs.ListFacts.{and_true}
 use Rattle.world_model.proofs.NameFacts.{same_name_true, same_name_refl, set_at_same}
-use Rattle.world_model.proofs.Units.{AreApart, units_apart}
+use Rattle.world_model.proofs.Units.{units_apart}
 use Rattle.world_model.proofs.Barrier.{member_lives, own_unit, barred}
 use Rattle.world_model.proofs.Removals.{held_lives_holds}
 use Rattle.heap_plain.specs.Types.{Name, Ref, Lane, Phase, Idle, Marking, Gathering, Act, Entry}

@@ -12,8 +12,9 @@ use Rattle.heap_plain.specs.Listing.{chained}
 use Rattle.heap_plain.specs.Notes.{names_at}
 use Rattle.heap_plain.specs.Painted.{Painted, IsNextGrey, IsWorklist, greyed, all_greyed}
 use Rattle.heap_plain.specs.Shading.{InRoots, InRow, InUnit, CanShade, Shades, root_bit}
-use Rattle.heap_plain.proofs.Noting.{names_at-append, by-append, one_name}
+use Rattle.heap_plain.proofs.Noting.{names_at-append, one_name}
 use Rattle.heap_plain.proofs.MarkSteps.{set_still, worklist_push}
+use Rattle.world_model.proofs.Joins.{by-append}
 
 -- ---- lists of units
 

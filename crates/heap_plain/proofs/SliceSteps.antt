@@ -10,9 +10,9 @@ use Rattle.world_model.specs.Sizes.{Sizes}
 use Rattle.world_model.specs.NameLists.{same_name, same_pass, has}
 use Rattle.world_model.specs.State.{Marks, is_grey, grey_in}
 use Rattle.world_model.specs.Engines.{is_marker}
+use Rattle.world_model.specs.Midway.{AreApart}
 use Rattle.world_model.proofs.ListFacts.{Among, and_true, or_true, among_test}
 use Rattle.world_model.proofs.NameFacts.{same_name_true, same_name_refl, has_among}
-use Rattle.world_model.proofs.Units.{AreApart}
 use Rattle.heap_plain.specs.Types.{Name, Kind, Pass, Lane, Marker, Collector, Phase, Idle, Marking, Gathering}
 use Rattle.heap_plain.specs.Parts.{Objects, name_at, next_at}
 use Rattle.heap_plain.specs.Listing.{chained}

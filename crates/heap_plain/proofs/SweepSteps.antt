@@ -13,9 +13,10 @@ use Rattle.world_model.specs.World.{World, Removal, is_at, has_stage, left_in}
 use Rattle.world_model.specs.World as model
 use Rattle.world_model.specs.CollectorSteps.{Sweeps}
 use Rattle.world_model.specs.Histories.{MayBy, after, state_of}
+use Rattle.world_model.specs.DestructionQueue.{IsQueue}
 use Rattle.world_model.proofs.ListFacts.{Among, among_append, among_left, among_right, among_test}
 use Rattle.world_model.proofs.NameFacts.{same_name_refl, has_among, among_has, among_members}
-use Rattle.world_model.proofs.Queues.{IsQueue, queue_start, named_any, unit_in_order}
+use Rattle.world_model.proofs.Queues.{queue_start, named_any, unit_in_order, all_from}
 use Rattle.world_model.proofs.Destroying.{order_of}
 use Rattle.world_model.proofs.Sound.{IsSound, sound, next_sound}
 use Rattle.heap_plain.specs.Types.{Name, Kind, Phase, Idle, Marking, Gathering, Collector, Swept, SweepStop, Entry}
@@ -90,10 +91,6 @@ distinct_found {names} ns lives from (suc count) = go (life_at lives (from + cou
     go Finished o e d = subst (λ (xs : List Name). Distinct xs) (sym (append-nil (removed_names names lives from count))) d
 
 -- ---- tests
-
-all_pass : {A : Type 0} (q : A → Bool) (xs : List A) → ((x : A) → Among xs x → q x ≡ true) → list_all q xs ≡ true
-all_pass q [] f = refl
-all_pass q (x ∷ xs) f = and_from (q x) _ (f x (inl refl)) (all_pass q xs (λ y a. f y (inr a)))
 
 pub name_among : (removals : List Removal) (r : Removal) → Among removals r → Among (map (λ (x : Removal). x.name) removals) r.name
 name_among [] r a = absurd a
@@ -207,8 +204,8 @@ module _ {z : Sizes} {p : Parts} {h : List Entry} {budget looked count : ℕ} {o
     count = sym len;
     looked = omega (arith, len, finds.few);
     different = distinct_different names (distinct_found s.names p.lives p.swept looked);
-    removed = all_pass (is_at (after h) model.Removed) names removed_now;
-    new = all_pass (λ n. not (has (after h).found n)) names fresh;
+    removed = all_from (is_at (after h) model.Removed) names removed_now;
+    new = all_from (λ n. not (has (after h).found n)) names fresh;
   }
 
   distinct' : Distinct found'
@@ -338,7 +335,7 @@ module _ {z : Sizes} {p : Parts} {h : List Entry} {budget looked count : ℕ} {o
   may_settle : length p.lives ≤ p.swept + looked → MayBy z (state_of h) Collector (act.Sweep budget settled_reply names)
   may_settle all = record {
     finishes = was.rest.between.agreed;
-    may = (sweeps sweep.Settled, omega (arith, s.removed.swept_is, s.units.lives_len), all_pass (λ r. has found' r.name) (after h).removals (λ r a. among_has found' r.name (all_found all r a)));
+    may = (sweeps sweep.Settled, omega (arith, s.removed.swept_is, s.units.lives_len), all_from (λ r. has found' r.name) (after h).removals (λ r a. among_has found' r.name (all_found all r a)));
   }
 
   -- the order has exactly the removed objects

@@ -11,9 +11,9 @@ use Rattle.world_model.specs.Reach.{graph, IsUnit, Refers}
 use Rattle.world_model.specs.Next.{next, run}
 use Rattle.world_model.specs.Histories.{LegalFrom, MayBy}
 use Rattle.world_model.specs.Calls.{by, KeepsForScans}
+use Rattle.world_model.specs.Midway.{AreApart}
 use Rattle.world_model.proofs.ListFacts.{Among, contains_among, among_contains}
 use Rattle.world_model.proofs.NameFacts.{set_at_same}
-use Rattle.world_model.proofs.Units.{AreApart}
 use Rattle.world_model.proofs.Barrier.{member_lives, own_unit}
 use Rattle.heap_plain.specs.Types.{Name, Marking, Marker, Act, Entry}
 use Rattle.heap_plain.specs.Types.act

@@ -53,19 +53,6 @@ any_left q (x ∷ xs) = go (q x) refl (any_left q xs)
     go true e rest = rest
     go false e rest = rw e rest
 
--- a filter that keeps all that pass keeps the answer
-pub any_kept : {A : Type 0} (q r : A → Bool) (xs : List A) → ((x : A) → q x ≡ true → r x ≡ true) → list_any q (filter r xs) ≡ list_any q xs
-any_kept q r [] f = refl
-any_kept q r (x ∷ xs) f = go (r x) refl (any_kept q r xs f)
-  where
-    go : (b : Bool) → r x ≡ b → list_any q (filter r xs) ≡ list_any q xs → list_any q (cond b (x ∷ filter r xs) (filter r xs)) ≡ (q x || list_any q xs)
-    go true e rest = ap (λ b. q x || b) rest
-    go false e rest = rest ∙ none (q x) refl
-      where
-        none : (b : Bool) → q x ≡ b → list_any q xs ≡ (b || list_any q xs)
-        none true is = absurd (let t : r x ≡ true = f x is in cc)
-        none false is = refl
-
 -- where none passes, nothing is taken out
 pub none_out : {A : Type 0} (q : A → Bool) (xs : List A) → list_any q xs ≡ false → filter (λ x. not (q x)) xs ≡ xs
 none_out q [] e = refl

@@ -4,7 +4,7 @@ use Rattle.std.specs.List.{list_any}
 use Rattle.heap_plain.specs.Types.{Name, Phase, Marking}
 use Rattle.world_model.specs.Sizes.{Sizes, item_count}
 use Rattle.world_model.specs.NameLists.{has}
-use Rattle.world_model.proofs.ListFacts.{Among}
+use Rattle.world_model.specs.Lists.{Among}
 use Rattle.heap_plain.specs.Painted.{Painted, IsWorklist, grey_of}
 use Rattle.heap_plain.specs.Parts.{Objects}
 use Rattle.heap_plain.specs.Units.{StandsAt}

@@ -5,8 +5,8 @@ use Rattle.heap_plain.specs.Types.{Name, Phase, Idle, Gathering}
 use Rattle.world_model.specs.Sizes.{Sizes, item_count}
 use Rattle.world_model.specs.NameLists.{same_name, has, members}
 use Rattle.world_model.specs.World.{World, empty_world, Removal, Removed as AtRemoved, Finished as AtFinished, has_stage, destruction_order}
-use Rattle.world_model.proofs.ListFacts.{Among}
-use Rattle.world_model.proofs.Queues.{IsQueue}
+use Rattle.world_model.specs.DestructionQueue.{IsQueue}
+use Rattle.world_model.specs.Lists.{Among}
 use Rattle.heap_plain.specs.declared.life.Life.{Life}
 use Rattle.heap_plain.specs.Queue.{Queued}
 use Rattle.heap_plain.specs.Parts.{Objects, Ends, name_at, life_at, first_at, is_gone, stage_of}

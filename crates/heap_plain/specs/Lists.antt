@@ -1,6 +1,6 @@
 -- Lists without repetition.
 use Rattle.std.specs.Prelude.{List, [], ◌∷◌}
-use Rattle.world_model.proofs.ListFacts.{Among}
+use Rattle.world_model.specs.Lists.{Among}
 
 -- no element stands in the list twice
 abbrev pub Distinct : {A : Type 0} → List A → Type 0

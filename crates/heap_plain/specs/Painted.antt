@@ -1,7 +1,7 @@
 -- The marks of a collection, and its worklist.
 use Rattle.std.specs.Prelude.{◌≡◌, ℕ, ◌<◌, ◌≤◌, ◌+◌, Bool, true, false, List, [], ◌∷◌, ◌++◌, length, get_or, take, drop}
 use Rattle.std.proofs.Math.ListN.{set}
-use Rattle.world_model.proofs.ListFacts.{Among}
+use Rattle.world_model.specs.Lists.{Among}
 use Rattle.heap_plain.specs.Lists.{Distinct}
 
 -- which units are marked, by the index of the first member; those that were marked since the collection began, in order; and how many of these are black

@@ -5,7 +5,7 @@ use Rattle.world_model.specs.NameLists.{has}
 use Rattle.world_model.specs.World.{unit_of}
 use Rattle.world_model.specs.Histories.{Legal, after, state_of}
 use Rattle.world_model.specs.Calls.{by}
-use Rattle.world_model.proofs.Answering.{IsMidway}
+use Rattle.world_model.specs.Midway.{IsMidway}
 use Rattle.heap_plain.specs.Types.{Name, Marking, Lane, Entry}
 use Rattle.heap_plain.specs.Types.act
 use Rattle.heap_plain.specs.Parts.{Parts, Shown}

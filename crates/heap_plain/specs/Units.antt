@@ -4,7 +4,7 @@ use Rattle.heap_plain.specs.Types.{Name, Kind}
 use Rattle.world_model.specs.Sizes.{Sizes, item_count}
 use Rattle.world_model.specs.NameLists.{has}
 use Rattle.world_model.specs.Engines.{IsOfLane}
-use Rattle.world_model.proofs.ListFacts.{Among}
+use Rattle.world_model.specs.Lists.{Among}
 use Rattle.heap_plain.specs.declared.life.Life.{Life}
 use Rattle.heap_plain.specs.declared.life.Life.TheVariants.{Free, Live}
 use Rattle.heap_plain.specs.Parts.{Objects, name_at, life_at, first_at, next_at}

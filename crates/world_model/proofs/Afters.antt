@@ -14,10 +14,11 @@ use Rattle.world_model.specs.State.{State, is_marked, white_units}
 use Rattle.world_model.specs.Next.{next_world, with_loose, at_stage, polled}
 use Rattle.world_model.specs.Histories.{MayBy, state_of, after}
 use Rattle.world_model.specs.Follows.{is_done, is_removed, made_by, freed_by, loosens, parts_by, StaysBy, UnitsAfter, RemovedAfter}
+use Rattle.world_model.specs.Midway.{AreApart}
 use Rattle.world_model.proofs.ListFacts.{and_true, Contains-none, Among, among_append, among_left, among_right, among_filter, among_filter_test, filter_among, test_among, among_test, among_contains, contains_among}
 use Rattle.world_model.proofs.NameFacts.{found_unit, has_among, among_has}
 use Rattle.world_model.proofs.Joins.{histories_join}
-use Rattle.world_model.proofs.Units.{AreApart, units_apart}
+use Rattle.world_model.proofs.Units.{units_apart}
 use Rattle.world_model.proofs.Rounds.{named, released_by, has-members}
 use Rattle.world_model.proofs.Queues.{named_any}
 use Rattle.world_model.proofs.Inductions.{one_more}

@@ -1,22 +1,23 @@
 -- Taking a unit apart is refused exactly while a collection marks: else some solo call does it.
-use Rattle.std.proofs.Common.{◌≡◌, ◌≢◌, ℕ, ◌<◌, zero, suc, refl, sym, subst, ap, ◌∙◌, inl, inr, arith, true, List, [], ◌∷◌, ◌++◌, map, length, length-append, append_assoc, None, ◌⊎◌}
+use Rattle.std.proofs.Common.{◌≡◌, ◌≢◌, ℕ, ◌<◌, zero, suc, refl, sym, subst, ap, ◌∙◌, inl, inr, arith, true, List, [], ◌∷◌, ◌++◌, map, length, length-append, append_assoc, ◌⊎◌}
 use Rattle.std.proofs.lemmas.Bool.{or_left}
 use Rattle.world_model.specs.Types.{Name, Marking, Lane, Entry}
 use Rattle.world_model.specs.Types.act
 use Rattle.world_model.specs.Sizes.{Sizes}
 use Rattle.world_model.specs.NameLists.{has, is_last, ends_with, but_last}
-use Rattle.world_model.specs.World.{unit_of, is_open}
+use Rattle.world_model.specs.World.{unit_of}
 use Rattle.world_model.specs.State.{State, Frame}
 use Rattle.world_model.specs.Next.{next, run, broken_by}
 use Rattle.world_model.specs.LaneSteps.{PartsOn, AreLoose}
 use Rattle.world_model.specs.Histories.{May, Legal, LegalFrom, state_of, after}
 use Rattle.world_model.specs.Calls.{by}
 use Rattle.world_model.specs.Follows.{entry, MayAsk, CanAppend, DissolveAnswers}
-use Rattle.world_model.proofs.ListFacts.{Among, among_left}
+use Rattle.world_model.specs.Midway.{IsMidway}
+use Rattle.world_model.proofs.ListFacts.{among_left}
 use Rattle.world_model.proofs.NameFacts.{same_name_refl, found_unit, has_among, among_has, member_of_one, set_at_same}
 use Rattle.world_model.proofs.Joins.{by-append, legal_join}
 use Rattle.world_model.proofs.Loosening.{ends_splits, ends_has, ends_own, parted_among, first_part}
-use Rattle.world_model.proofs.Units.{AreApart, units_apart, next_apart}
+use Rattle.world_model.proofs.Units.{units_apart, next_apart}
 use Rattle.world_model.proofs.Solo.{solo}
 use Rattle.world_model.proofs.Barrier.{barred, own_unit}
 use Rattle.world_model.proofs.Dissolving.{leaving, none_loosened}
@@ -32,18 +33,6 @@ last_of (first ∷ rest) k e = last_in rest k (omega arith)
     last_in (n ∷ []) k e = (n, same_name_refl n)
     last_in (n ∷ m ∷ names) zero e = absurd (omega arith)
     last_in (n ∷ m ∷ names) (suc k) e = last_in (m ∷ names) k (omega arith)
-
--- A lane has taken some members out of a unit, and is left with these; at first with all.
-pub record IsMidway (z : Sizes) (s : State) (lane : ℕ) (whole front : List Name) : Type 0 where
-  pub in_range : lane < z.lanes
-  pub opened : is_open s.world (Lane lane) ≡ true
-  pub none_owed : (s.frames lane).owed ≡ None
-  pub unmarked : s.world.phase ≢ Marking
-  pub apart : AreApart s.world.kinds s.world.units
-  pub unit : Among s.world.units front
-  pub held : (n : Name) → has whole n ≡ true → has (s.frames lane).held n ≡ true
-  pub own : (n : Name) → has front n ≡ true → n.lane ≡ lane
-  pub so_far : (((s.frames lane).broken ≡ []) × (whole ≡ front)) ⊎ (((s.frames lane).broken ≡ whole) × (whole ≡ front ++ (s.frames lane).loosened))
 
 in_whole : (front loosened whole : List Name) (n : Name) → whole ≡ front ++ loosened → has front n ≡ true → has whole n ≡ true
 in_whole front loosened whole n e h = subst (λ (u : List Name). has u n ≡ true) (sym e) (among_has (front ++ loosened) n (among_left front loosened n (has_among front n h)))

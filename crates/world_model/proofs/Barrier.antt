@@ -20,12 +20,13 @@ use Rattle.world_model.specs.MarkerSteps.{Scans}
 use Rattle.world_model.specs.CollectorSteps.{Commits}
 use Rattle.world_model.specs.Histories.{MayBy, May, Legal, state_of}
 use Rattle.world_model.specs.Follows.{IsMade, is_done, made_by}
+use Rattle.world_model.specs.Midway.{AreApart}
 use Rattle.world_model.proofs.ListFacts.{and_true, or_true, or_right, any_filter, Among, among_append, among_filter, among_filter_test, filter_among, test_among, among_test, among_contains}
 use Rattle.world_model.proofs.NameFacts.{same_name_true, found_unit, any_more, has_among, among_has}
 use Rattle.world_model.proofs.Reaches.{reach_by_walks_holds}
 use Rattle.world_model.proofs.Rounds.{has-members}
 use Rattle.world_model.proofs.Loosening.{lives_loose}
-use Rattle.world_model.proofs.Units.{AreApart, units_apart}
+use Rattle.world_model.proofs.Units.{units_apart}
 use Rattle.world_model.proofs.Quiet.{not_open, still_open, other_lane, no_lane, no_collector}
 use Rattle.world_model.proofs.Inductions.{by_states}
 use Rattle.world_model.proofs.Sound.{IsSound, sound, made_living, made_stays, is_new, commits_may}

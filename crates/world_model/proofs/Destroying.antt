@@ -15,10 +15,11 @@ use Rattle.world_model.specs.State.{State, white_units}
 use Rattle.world_model.specs.Next.{next_world, next_by, settled, removal_with, at_stage, polled, released}
 use Rattle.world_model.specs.CollectorSteps.{SweepMay, to_begin, to_release, round_from, Asks}
 use Rattle.world_model.specs.Histories.{MayBy}
+use Rattle.world_model.specs.DestructionQueue.{in_removals, in_order}
 use Rattle.world_model.proofs.ListFacts.{and_true, or_true, Among, filter_among, among_left, among_right, test_among}
 use Rattle.world_model.proofs.NameFacts.{same_name_true, same_name_refl, has_among}
-use Rattle.world_model.proofs.Rounds.{named, stands, in_removals, in_removals_at, is_at-at_stage_same, is_at-at_stage_other, is_at-polled, begins_has, one_begins, has-released_by, is_at-released, released_by}
-use Rattle.world_model.proofs.Queues.{in_order, names_kept, names_left, named_any, fresh, find_some, find_none, unit_with, member_of, unit_in_order, all_at, ready_unit, one_unit}
+use Rattle.world_model.proofs.Rounds.{named, stands, in_removals_at, is_at-at_stage_same, is_at-at_stage_other, is_at-polled, begins_has, one_begins, has-released_by, is_at-released, released_by}
+use Rattle.world_model.proofs.Queues.{names_kept, names_left, named_any, fresh, find_some, find_none, unit_with, member_of, unit_in_order, all_at, ready_unit, one_unit}
 use Rattle.world_model.proofs.Counts.{names_of, names_new}
 
 -- the units of the last removal whose first members are found

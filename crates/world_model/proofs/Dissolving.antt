@@ -15,12 +15,13 @@ use Rattle.world_model.specs.LaneSteps.{PartsOn, AreLoose}
 use Rattle.world_model.specs.Histories.{MayBy, May, Legal, LegalFrom, state_of, after}
 use Rattle.world_model.specs.Calls.{by}
 use Rattle.world_model.specs.Follows.{entry, IsTakenApart, TakenApart, DissolvesUnit, StaysAlone, CollectedSingly, NoneLoosens, loosens}
+use Rattle.world_model.specs.Midway.{AreApart}
 use Rattle.world_model.proofs.ListFacts.{Among, among_append, among_left, among_contains, contains_among}
 use Rattle.world_model.proofs.NameFacts.{same_name_refl, member_of_one, found_unit, has_among, among_has, set_at_same}
 use Rattle.world_model.proofs.Joins.{histories_join, run-append, by-append, legal_split, legal_join}
 use Rattle.world_model.proofs.Reaches.{reached_unit}
 use Rattle.world_model.proofs.Loosening.{ends_splits, ends_some, ends_own, parted_among, first_part, last_part, whole_part}
-use Rattle.world_model.proofs.Units.{AreApart, units_apart}
+use Rattle.world_model.proofs.Units.{units_apart}
 use Rattle.world_model.proofs.Quiet.{not_open, still_open, other_lane, no_lane, no_collector}
 use Rattle.world_model.proofs.Solo.{state_after, legal_call}
 use Rattle.world_model.proofs.Collections.{collect_is_exact_holds}

@@ -19,11 +19,12 @@ use Rattle.world_model.specs.LaneSteps.{PaysFor}
 use Rattle.world_model.specs.Histories.{MayBy, May, Legal, state_of, after}
 use Rattle.world_model.specs.Laws.{started, done}
 use Rattle.world_model.specs.Follows.{IsMade, IsParted, made_by, is_done, stored_by, names_stored, IsReachedFrom, FloatingIsBounded, UnreachedIsRemoved}
+use Rattle.world_model.specs.Midway.{AreApart}
 use Rattle.world_model.proofs.ListFacts.{and_true, or_true, any_filter, Among, among_left, among_right, among_filter_test, test_among, among_contains, contains_among}
 use Rattle.world_model.proofs.NameFacts.{same_name_true, among_has, set_at_same}
 use Rattle.world_model.proofs.Joins.{histories_join}
 use Rattle.world_model.proofs.Reaches.{reach_by_walks_holds, walk_on}
-use Rattle.world_model.proofs.Units.{AreApart, units_apart}
+use Rattle.world_model.proofs.Units.{units_apart}
 use Rattle.world_model.proofs.Quiet.{not_open}
 use Rattle.world_model.proofs.Inductions.{by_more, one_more, one_more_of}
 use Rattle.world_model.proofs.Sound.{sound, made_living, made_stays, is_new}

@@ -16,15 +16,16 @@ use Rattle.world_model.specs.Next.{next_world, next_by, next, settled, lane_of}
 use Rattle.world_model.specs.CollectorSteps.{SweepMay}
 use Rattle.world_model.specs.Histories.{MayBy, May, Legal, state_of, after}
 use Rattle.world_model.specs.Follows.{IsMade, made_by, loosens, is_start, is_done, UnitStays, UnitsNeverJoin, OwnUnitsStay, PhaseStays, Closes, IsKeptOpen, OpenKeeps, IsOwn, OwnStays, OwnJoins, IsActor, FewOpen}
+use Rattle.world_model.specs.Midway.{AreApart}
 use Rattle.world_model.proofs.ListFacts.{any_filter, filter_any, Among, among_filter, among_filter_test, contains_among}
-use Rattle.world_model.proofs.Quiet.{not_open}
+use Rattle.world_model.proofs.Quiet.{not_open, other_lane}
 use Rattle.world_model.proofs.Inductions.{by_states, by_more, by_more_states, one_more_of, all_trivial, all_split}
 use Rattle.world_model.proofs.Counts.{count-append, count-cons, uncounted}
 use Rattle.world_model.proofs.Stages.{one_counted}
 use Rattle.world_model.proofs.Barrier.{lived, living_stays, own_unit, unit_lives, loosens_may}
 use Rattle.world_model.proofs.Joins.{histories_join}
 use Rattle.world_model.proofs.NameFacts.{found_unit}
-use Rattle.world_model.proofs.Units.{AreApart, units_apart}
+use Rattle.world_model.proofs.Units.{units_apart}
 use Rattle.world_model.proofs.Sound.{sound, made_living, made_stays, is_new}
 use Rattle.world_model.proofs.Loosening.{ends_own, unit_of_loose, stays_whole, part_within}
 
@@ -222,15 +223,12 @@ pub set_at_miss : {A : Type 0} (f : ℕ → A) (k : ℕ) (value : A) (i : ℕ) �
 set_at_miss f k value i e = rw e refl
 
 -- a filter that keeps all that pass keeps the answer
-any_kept : {A : Type 0} (q r : A → Bool) (xs : List A) → ((x : A) → q x ≡ true → r x ≡ true) → list_any q (filter r xs) ≡ list_any q xs
+pub any_kept : {A : Type 0} (q r : A → Bool) (xs : List A) → ((x : A) → q x ≡ true → r x ≡ true) → list_any q (filter r xs) ≡ list_any q xs
 any_kept q r xs f = go (list_any q xs) refl
   where
     go : (b : Bool) → list_any q xs ≡ b → list_any q (filter r xs) ≡ b
     go true e = filter_any q r xs f e
     go false e = false_from_ne_true _ (λ k. both_ways _ e (any_filter q r xs k))
-
-none_of_lane : (lane l : ℕ) (x : Pass) → (lane == l) ≡ false → same_pass (Lane lane) x ≡ true → not (same_pass (Lane l) x) ≡ true
-none_of_lane lane l x other e = not_from_false _ (false_from_ne_true _ (λ f. both_ways _ other (subst (λ (y : Pass). same_pass (Lane lane) y ≡ true) (sym (same_pass_true (Lane l) x f)) e)))
 
 own_other_lane : (z : Sizes) (s : State) (lane l : ℕ) (a : Act) → (lane == l) ≡ false → MayBy z s (Lane l) a → IsOwn lane s (next_by s (next_world s.marks s.world (Lane l) a) (Lane l) a)
 own_other_lane z s lane l (act.FrameOpen phase) other may = record {
@@ -245,7 +243,7 @@ own_other_lane z s lane l act.FrameClose other may = record {
   kinds = refl;
   strong = λ i. refl;
   drawn_is = refl;
-  opened = any_kept (same_pass (Lane lane)) (λ q. not (same_pass (Lane l) q)) s.world.opened (λ x e. none_of_lane lane l x other e);
+  opened = any_kept (same_pass (Lane lane)) (λ q. not (same_pass (Lane l) q)) s.world.opened (λ x e. other_lane lane l x other e);
 }
 own_other_lane z s lane l (act.Make kinds first) other may = record {
   frame = set_at_miss s.frames l _ lane other;

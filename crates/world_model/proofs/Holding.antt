@@ -12,9 +12,10 @@ use Rattle.world_model.specs.State.{State}
 use Rattle.world_model.specs.Next.{next_world, next_frame, next_by, next, given}
 use Rattle.world_model.specs.Histories.{MayBy, May, state_of}
 use Rattle.world_model.specs.Follows.{is_done, HeldWithUnit}
+use Rattle.world_model.specs.Midway.{AreApart}
 use Rattle.world_model.proofs.ListFacts.{or_true, or_right, Among}
 use Rattle.world_model.proofs.NameFacts.{found_unit}
-use Rattle.world_model.proofs.Units.{AreApart, next_apart, units_apart}
+use Rattle.world_model.proofs.Units.{next_apart, units_apart}
 use Rattle.world_model.proofs.Quiet.{not_open}
 use Rattle.world_model.proofs.Inductions.{by_states}
 use Rattle.world_model.proofs.Barrier.{IsBarred, barred, given_lives, living_stays, by_no_lane, by_no_marker, own_unit, set_at_other}

@@ -1,6 +1,7 @@
 -- Lists: membership by recursion, tests of some element, filters.
 use Rattle.std.proofs.Common.{◌≡◌, refl, sym, subst, ap, ◌∙◌, inl, inr, zero, suc, arith, Bool, cond, true, false, ◌&&◌, ◌||◌, List, [], ◌∷◌, ◌++◌, ◌⊎◌, Contains, filter}
 use Rattle.std.specs.List.{list_any, AllByRecursion}
+pub use Rattle.world_model.specs.Lists.{Among}
 
 pub and_true : (a b : Bool) → (a && b) ≡ true → (a ≡ true) × (b ≡ true)
 and_true true true h = (refl, refl)
@@ -26,11 +27,6 @@ Contains-cons x xs y (suc k, lt, e) = inr (k, omega arith, e)
 
 pub Contains-none : {A : Type 0} (y : A) → Contains [] y → ⊥
 Contains-none y (k, lt, e) = absurd (omega arith)
-
--- membership by recursion
-abbrev pub Among : {A : Type 0} → List A → A → Type 0
-Among [] y = ⊥
-Among (x ∷ xs) y = (x ≡ y) ⊎ Among xs y
 
 pub among_append : {A : Type 0} (xs ys : List A) (y : A) → Among (xs ++ ys) y → Among xs y ⊎ Among ys y
 among_append [] ys y h = inr h

@@ -1,7 +1,7 @@
 -- A unit is parted: its last member leaves it, and is a unit by itself.
 use Rattle.std.proofs.Common.{◌≡◌, ◌≢◌, refl, sym, subst, ap, ◌∙◌, inl, inr, Bool, cond, true, false, ◌||◌, if◌then◌else◌, List, [], ◌∷◌, ◌++◌, append-nil, Option, Some, None, unwrap_or, option_map, ◌⊎◌}
 use Rattle.std.specs.List.{find, flat_map}
-use Rattle.std.proofs.lemmas.Bool.{both_ways, not-true, not_from_false, false_from_ne_true, and_from, or_left}
+use Rattle.std.proofs.lemmas.Bool.{not-true, not_from_false, and_from, or_left}
 use Rattle.std.proofs.lemmas.List.Folds.{list_any-append}
 use Rattle.std.proofs.lemmas.List.Concat.{flat_map-append}
 use Rattle.world_model.specs.Types.{Name}
@@ -10,7 +10,7 @@ use Rattle.world_model.specs.World.{World, unit_of, in_world}
 use Rattle.world_model.specs.Next.{with_loose}
 use Rattle.world_model.proofs.ListFacts.{and_true, or_false, or_right, Among, among_append, among_left, among_right}
 use Rattle.world_model.proofs.NameFacts.{same_name_true, same_name_refl}
-use Rattle.world_model.proofs.Rounds.{has-members}
+use Rattle.world_model.proofs.Rounds.{has-members, same_name_sym}
 
 -- ---- the last member
 
@@ -46,9 +46,6 @@ ends_own n u h = ends_has n u n h ∙ or_right (has (but_last u) n) _ (same_name
 
 -- ---- different members
 
-flip_false : (a b : Name) → same_name a b ≡ false → same_name b a ≡ false
-flip_false a b e = false_from_ne_true _ (λ k. both_ways _ e (subst (λ (x : Name). same_name a x ≡ true) (sym (same_name_true b a k)) (same_name_refl a)))
-
 -- of different names the last is none of the others
 different_front : (xs : List Name) (n : Name) → all_different (xs ++ n ∷ []) ≡ true → (has xs n ≡ false) × (all_different xs ≡ true)
 different_front [] n h = (refl, refl)
@@ -56,7 +53,7 @@ different_front (x ∷ xs) n h =
     let parts = and_true _ _ h in
     let rest = different_front xs n parts.1 in
     let out = or_false (has xs x) _ (sym (list_any-append (same_name x) xs (n ∷ [])) ∙ not-true _ parts.0) in
-    let other : same_name n x ≡ false = flip_false x n (sym (or_none (same_name x n)) ∙ out.1) in
+    let other : same_name n x ≡ false = same_name_sym x n (sym (or_none (same_name x n)) ∙ out.1) in
     (rw (other, rest.0) refl, and_from _ _ (not_from_false _ out.0) rest.1)
 
 pub different_left : (n : Name) (u : List Name) → ends_with n u ≡ true → all_different u ≡ true → (has (but_last u) n ≡ false) × (all_different (but_last u) ≡ true)

@@ -167,7 +167,7 @@ each_in_one_place_holds z history legal n = record { made = made_in_one; only = 
 -- ---- quotas
 
 -- of new names of a lane all are of the lane
-new_in_lane : (lane first l : ℕ) (kinds : List Kind) → count_by (λ n. n.lane == l) (names_from lane first kinds) ≡ cond (lane == l) (length kinds) 0
+pub new_in_lane : (lane first l : ℕ) (kinds : List Kind) → count_by (λ n. n.lane == l) (names_from lane first kinds) ≡ cond (lane == l) (length kinds) 0
 new_in_lane lane first l [] = go (lane == l)
   where
     go : (b : Bool) → ◌≡◌ {A = ℕ} 0 (cond b 0 0)

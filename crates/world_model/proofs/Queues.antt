@@ -11,39 +11,10 @@ use Rattle.world_model.specs.NameLists.{same_name, has, all_different, members, 
 use Rattle.world_model.specs.World.{World, Stage, Removed, Begun, Finished, Removal, has_stage, is_at, destruction_order}
 use Rattle.world_model.specs.Next.{removal_with, at_stage, polled, released}
 use Rattle.world_model.specs.CollectorSteps.{to_begin, to_release, round_from}
+use Rattle.world_model.specs.DestructionQueue.{rotated, in_removals, in_order, IsOrder, IsReady, IsQueue}
 use Rattle.world_model.proofs.ListFacts.{and_true, or_true, or_false, or_right, any_filter, Among, among_append, among_filter, filter_among, among_filter_test}
 use Rattle.world_model.proofs.NameFacts.{same_name_true, same_name_refl, has_among, among_has}
-use Rattle.world_model.proofs.Rounds.{rotated, find_in_round, has-rotated, asked_last, asked_out, in_removals, in_removals_at, one_stage, is_at-at_stage_same, is_at-at_stage_other, is_at-polled, released_by, is_at-released, has-released_by, one_begins}
-
--- ---- the queue
-
--- the removed objects, in the order of their destruction
-abbrev pub in_order : World → List Name
-in_order w = members (destruction_order w)
-
--- No name stands twice. What is not released stands in the units of the destruction order, and the members of a unit are released together.
-pub record IsOrder (w : World) : Type 0 where
-  pub different : all_different (in_order w) ≡ true
-  pub units_different : all_different (members w.last_removed) ≡ true
-  pub removals_different : all_different (map (λ r. r.name) w.removals) ≡ true
-  pub covered : (n : Name) → in_removals w n ≡ true → has (in_order w) n ≡ true
-  pub whole : (u : List Name) (n m : Name) → Among (destruction_order w) u → has u n ≡ true → has u m ≡ true
-      → in_removals w n ≡ true → in_removals w m ≡ true
-
--- All members of one unit at most are finished, and this is its first member.
-pub record IsReady (order : List (List Name)) (finished : Name → Bool) (ready : Option Name) : Type 0 where
-  pub first : ready ≡ option_and_then first_member (find (list_all finished) order)
-  pub one : (u v : List Name) → Among order u → Among order v → list_all finished u ≡ true → list_all finished v ≡ true → u ≡ v
-
--- Of the objects that are not released: what is not begun; what is begun and not finished, the next one to be asked first;
--- and the first member of the unit that is to be released, if there is one.
-pub record IsQueue (w : World) (asked : Option Name) (todo ring : List Name) (ready : Option Name) : Type 0 where
-  pub order : IsOrder w
-  pub todo_is : todo ≡ filter (is_at w Removed) (in_order w)
-  pub ring_is : ring ≡ filter (is_at w Begun) (rotated asked (in_order w))
-  -- none is asked before all are begun
-  pub early : todo ≢ [] → (asked ≡ None) × (in_order w ≡ ring ++ todo)
-  pub ready_is : IsReady (destruction_order w) (is_at w Finished) ready
+use Rattle.world_model.proofs.Rounds.{find_in_round, has-rotated, asked_last, asked_out, in_removals_at, one_stage, is_at-at_stage_same, is_at-at_stage_other, is_at-polled, released_by, is_at-released, has-released_by, one_begins}
 
 -- ---- lists
 
@@ -85,7 +56,7 @@ all_at p [] x h k = absurd k
 all_at p (y ∷ xs) x h (inl e) = ap p (sym e) ∙ (and_true _ _ h).0
 all_at p (y ∷ xs) x h (inr k) = all_at p xs x (and_true _ _ h).1 k
 
-all_from : {A : Type 0} (p : A → Bool) (xs : List A) → ((x : A) → Among xs x → p x ≡ true) → list_all p xs ≡ true
+pub all_from : {A : Type 0} (p : A → Bool) (xs : List A) → ((x : A) → Among xs x → p x ≡ true) → list_all p xs ≡ true
 all_from p [] h = refl
 all_from p (x ∷ xs) h = and_from _ _ (h x (inl refl)) (all_from p xs (λ y k. h y (inr k)))
 
@@ -171,7 +142,7 @@ one_unit (x ∷ units) u v n different k l a b = go k l (one_unit units u v n (s
     go (inr k) (inl f) rest = absurd (twice v u f k b a)
     go (inr k) (inr l) rest = rest k l a b
 
-begins_among : (n : Name) (u : List Name) → begins_with n u ≡ true → Among u n
+pub begins_among : (n : Name) (u : List Name) → begins_with n u ≡ true → Among u n
 begins_among n [] h = absurd cc
 begins_among n (m ∷ u) h = inl (sym (same_name_true n m h))
 

@@ -16,11 +16,12 @@ use Rattle.world_model.specs.Next.{next_world, next_by, next, run, settled, seen
 use Rattle.world_model.specs.LaneSteps.{PaysFor}
 use Rattle.world_model.specs.Histories.{MayBy, May, LegalFrom, state_of}
 use Rattle.world_model.specs.Laws.{is_quiet, started, done, KeepsReached, QuietIsExact}
+use Rattle.world_model.specs.Midway.{AreApart}
 use Rattle.world_model.proofs.Joins.{histories_join, run-append, legal_split}
 use Rattle.world_model.proofs.Reaches.{reach_by_walks_holds, reached_unit}
 use Rattle.world_model.proofs.ListFacts.{and_true, or_right, Among, among_filter, contains_among, among_contains, filter_among, among_filter_test, any_filter, filter_any}
 use Rattle.world_model.proofs.NameFacts.{any_more, found_unit, set_at_same}
-use Rattle.world_model.proofs.Units.{AreApart, next_apart, units_apart}
+use Rattle.world_model.proofs.Units.{next_apart, units_apart}
 
 -- ---- what a quiet collection keeps
 
@@ -96,7 +97,7 @@ not_open w p is none = let wrong : false ≡ true = rw none at is in cc
 
 -- ---- from a steady state
 
-any_none : (u : List Name) → list_any (has []) u ≡ true → ⊥
+pub any_none : (u : List Name) → list_any (has []) u ≡ true → ⊥
 any_none [] h = cc
 any_none (n ∷ u) h = any_none u h
 

@@ -4,7 +4,7 @@ use Rattle.std.specs.List.{list_any, range_with_len}
 use Rattle.std.proofs.Math.Logic.{dite}
 use Rattle.std.proofs.Math.Decide.{ℕ_discrete, dec_le}
 use Rattle.std.proofs.Math.Nat.{lt_of_not-le}
-use Rattle.std.proofs.lemmas.List.Sums.{sum_by-cons, count_by-le-length}
+use Rattle.std.proofs.lemmas.List.Sums.{count_by-le-length}
 use Rattle.world_model.specs.Types.{Name}
 use Rattle.world_model.specs.NameLists.{has}
 use Rattle.world_model.specs.Reach.{Graph, IsUnit, Refers, Walk, IsReached}
@@ -12,6 +12,7 @@ use Rattle.world_model.specs.Reached.{within_steps, names_member, object_refers,
 use Rattle.world_model.proofs.ListFacts.{Among, and_true, or_true, or_right, contains_among, among_contains, among_test, test_among}
 use Rattle.world_model.proofs.NameFacts.{has_among, among_has}
 use Rattle.world_model.proofs.Reaches.{reach_by_walks_holds}
+use Rattle.world_model.proofs.Counts.{count-cons}
 
 -- ---- tests on a list
 
@@ -23,14 +24,11 @@ any_agree : {A : Type 0} (xs : List A) (p q : A → Bool) → AgreeOn xs p q →
 any_agree [] p q h = refl
 any_agree (x ∷ xs) p q h = let first = h x (inl refl) in let rest = any_agree xs p q (λ y a. h y (inr a)) in cc
 
-count_cons : {A : Type 0} (p : A → Bool) (x : A) (xs : List A) → count_by p (x ∷ xs) ≡ cond (p x) 1 0 + count_by p xs
-count_cons p x xs = sum_by-cons (λ y. cond (p y) 1 0) x xs
-
 count_agree : {A : Type 0} (xs : List A) (p q : A → Bool) → AgreeOn xs p q → count_by p xs ≡ count_by q xs
 count_agree [] p q h = refl
 count_agree (x ∷ xs) p q h =
-    count_cons p x xs ∙ ap (λ (b : Bool). cond b 1 0 + count_by p xs) (h x (inl refl))
-    ∙ ap (λ (n : ℕ). cond (q x) 1 0 + n) (count_agree xs p q (λ y a. h y (inr a))) ∙ sym (count_cons q x xs)
+    count-cons p x xs ∙ ap (λ (b : Bool). cond b 1 0 + count_by p xs) (h x (inl refl))
+    ∙ ap (λ (n : ℕ). cond (q x) 1 0 + n) (count_agree xs p q (λ y a. h y (inr a))) ∙ sym (count-cons q x xs)
 
 agree_more : {A : Type 0} (x : A) (xs : List A) (p q : A → Bool) → p x ≡ q x → AgreeOn xs p q → AgreeOn (x ∷ xs) p q
 agree_more x xs p q e h y (inl same) = subst (λ (z : _). p z ≡ q z) same e
@@ -43,12 +41,12 @@ grows (x ∷ xs) p q wider = go (p x) (q x) refl refl (grows xs p q wider)
   where
     go : (a b : Bool) → p x ≡ a → q x ≡ b → AgreeOn xs p q ⊎ (count_by p xs + 1 ≤ count_by q xs) → AgreeOn (x ∷ xs) p q ⊎ (count_by p (x ∷ xs) + 1 ≤ count_by q (x ∷ xs))
     go true false e f rest = absurd (let on : q x ≡ true = wider x e in cc)
-    go false true e f (inl agree) = let same = count_agree xs p q agree in inr (rw (count_cons p x xs, count_cons q x xs, e, f) (omega (arith, same)))
-    go false true e f (inr more) = inr (rw (count_cons p x xs, count_cons q x xs, e, f) (omega (arith, more)))
+    go false true e f (inl agree) = let same = count_agree xs p q agree in inr (rw (count-cons p x xs, count-cons q x xs, e, f) (omega (arith, same)))
+    go false true e f (inr more) = inr (rw (count-cons p x xs, count-cons q x xs, e, f) (omega (arith, more)))
     go true true e f (inl agree) = inl (agree_more x xs p q (e ∙ sym f) agree)
-    go true true e f (inr more) = inr (rw (count_cons p x xs, count_cons q x xs, e, f) (omega (arith, more)))
+    go true true e f (inr more) = inr (rw (count-cons p x xs, count-cons q x xs, e, f) (omega (arith, more)))
     go false false e f (inl agree) = inl (agree_more x xs p q (e ∙ sym f) agree)
-    go false false e f (inr more) = inr (rw (count_cons p x xs, count_cons q x xs, e, f) (omega (arith, more)))
+    go false false e f (inr more) = inr (rw (count-cons p x xs, count-cons q x xs, e, f) (omega (arith, more)))
 
 -- ---- steps
 

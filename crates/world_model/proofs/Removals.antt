@@ -19,11 +19,12 @@ use Rattle.world_model.specs.Histories.{MayBy, Legal, state_of, after}
 use Rattle.world_model.specs.Calls.{by, Appends}
 use Rattle.world_model.specs.Laws.{started, done}
 use Rattle.world_model.specs.Follows.{HeldLives, NamedLives, BlackRefersToMarked, RootsMarked, NoWhiteReached, StartMarksRoots, RootsStayMarked, CommitRuleFollows, NoneDone, is_done, IsParted, KeepsOrRemoves, ReachedStay, RemovesUnreached, CommitRemovesUnreached, LivesAfter, made_by}
+use Rattle.world_model.specs.Midway.{AreApart}
 use Rattle.world_model.proofs.ListFacts.{or_true, or_right, Among, among_append, among_left, among_filter, among_filter_test, filter_among, test_among, among_test, among_contains, contains_among}
 use Rattle.world_model.proofs.NameFacts.{same_name_refl, found_unit, has_among}
 use Rattle.world_model.proofs.Joins.{histories_join}
 use Rattle.world_model.proofs.Reaches.{reached_unit, reached_passes}
-use Rattle.world_model.proofs.Units.{AreApart, units_apart}
+use Rattle.world_model.proofs.Units.{units_apart}
 use Rattle.world_model.proofs.Solo.{state_after}
 use Rattle.world_model.proofs.Collections.{keeps_mark, all_keep}
 use Rattle.world_model.proofs.Progress.{started_world}

@@ -13,20 +13,11 @@ use Rattle.world_model.specs.NameLists.{same_name, has, all_different, members, 
 use Rattle.world_model.specs.World.{World, Stage, Removed, Begun, Finished, Removal, has_stage, is_at, polls_of}
 use Rattle.world_model.specs.Next.{at_stage, polled, released}
 use Rattle.world_model.specs.CollectorSteps.{round_from}
-use Rattle.world_model.proofs.ListFacts.{and_true, or_true, or_false, or_right, any_filter, Among, among_filter, filter_among, among_filter_test}
+use Rattle.world_model.specs.DestructionQueue.{rotated, up_to_name, in_removals}
+use Rattle.world_model.proofs.ListFacts.{and_true, or_true, or_false, or_right, any_filter, Among, among_filter, filter_among, among_filter_test, among_test}
 use Rattle.world_model.proofs.NameFacts.{same_name_true, same_name_refl}
 
 -- ---- a round
-
--- the names up to the first place of this one, with it
-abbrev pub up_to_name : Name → List Name → List Name
-up_to_name n [] = []
-up_to_name n (m ∷ names) = if same_name n m then m ∷ [] else m ∷ up_to_name n names
-
--- the names once round, from behind the one that was asked last
-abbrev pub rotated : Option Name → List Name → List Name
-rotated None names = names
-rotated (Some last) names = after_name last names ++ up_to_name last names
 
 up_to_and_after : (n : Name) (names : List Name) → up_to_name n names ++ after_name n names ≡ names
 up_to_and_after n [] = refl
@@ -86,7 +77,7 @@ alike_in_round p q asked names alike = filter_alike p q (rotated asked names) (�
 
 -- ---- the next round
 
-same_name_sym : (a b : Name) → same_name a b ≡ false → same_name b a ≡ false
+pub same_name_sym : (a b : Name) → same_name a b ≡ false → same_name b a ≡ false
 same_name_sym a b h = false_from_ne_true (same_name b a) (λ same. both_ways (same_name a b) h (ap (same_name a) (same_name_true b a same) ∙ same_name_refl a))
 
 different_filter : (p : Name → Bool) (names : List Name) → all_different names ≡ true → all_different (filter p names) ≡ true
@@ -226,11 +217,7 @@ named n r = same_name n r.name
 abbrev pub stands : Name → Stage → Removal → Bool
 stands n stage r = same_name n r.name && has_stage stage r.stage
 
--- whether an object is removed and not released
-abbrev pub in_removals : World → Name → Bool
-in_removals w n = list_any (λ r. same_name n r.name) w.removals
-
-has_stage_true : (a b : Stage) → has_stage a b ≡ true → a ≡ b
+pub has_stage_true : (a b : Stage) → has_stage a b ≡ true → a ≡ b
 has_stage_true Removed Removed h = refl
 has_stage_true Begun Begun h = refl
 has_stage_true Finished Finished h = refl
@@ -408,11 +395,6 @@ pub has-members : (units : List (List Name)) (n : Name) → has (members units) 
 has-members [] n = refl
 has-members (u ∷ units) n = list_any-append (same_name n) u (members units) ∙ ap (λ (b : Bool). has u n || b) (has-members units n)
 
-among_any : {A : Type 0} (p : A → Bool) (xs : List A) (x : A) → Among xs x → p x ≡ true → list_any p xs ≡ true
-among_any p [] x k is = absurd k
-among_any p (y ∷ xs) x (inl e) is = rw (ap p e ∙ is) refl
-among_any p (y ∷ xs) x (inr k) is = or_right (p y) _ (among_any p xs x k is)
-
 -- a test that some element passes, where all elements are this one
 any_same : {A : Type 0} (p : A → Bool) (xs : List A) (x : A) → ((y : A) → Among xs y → y ≡ x) → list_any p xs ≡ true → p x ≡ true
 any_same p [] x same h = absurd cc
@@ -431,7 +413,7 @@ has-released_by w of u among begins one n = has-members (filter (begins_with of)
     same v k = one v (among_filter (begins_with of) w.last_removed v k) (among_filter_test (begins_with of) w.last_removed v k)
 
     go : (b : Bool) → has u n ≡ b → list_any (λ v. has v n) (filter (begins_with of) w.last_removed) ≡ b
-    go true e = among_any (λ (v : List Name). has v n) _ u (filter_among (begins_with of) w.last_removed u among begins) e
+    go true e = among_test (λ (v : List Name). has v n) _ u (filter_among (begins_with of) w.last_removed u among begins) e
     go false e = false_from_ne_true _ (λ h. let t = any_same (λ (v : List Name). has v n) _ u same h in absurd cc)
 
 -- different names in two parts: none stands in both, and those of the second are different
@@ -462,7 +444,7 @@ one_begins of (x ∷ units) u v different k l a b =
         → (y z : List Name) → x ≡ y → Among units z → begins_with of y ≡ true → begins_with of z ≡ true → ⊥
     twice apart y z e m a b =
         apart of (ap (λ (us : List Name). has us of) e ∙ begins_has of y a)
-        (has-members units of ∙ among_any (λ (us : List Name). has us of) units z m (begins_has of z b))
+        (has-members units of ∙ among_test (λ (us : List Name). has us of) units z m (begins_has of z b))
 
     go : (x ≡ u) ⊎ Among units u → (x ≡ v) ⊎ Among units v → ((n : Name) → has x n ≡ true → has (members units) n ≡ true → ⊥)
         → (Among units u → Among units v → begins_with of u ≡ true → begins_with of v ≡ true → v ≡ u) → v ≡ u

@@ -19,11 +19,12 @@ use Rattle.world_model.specs.Next.{next_world, next_by, next, at_stage, polled}
 use Rattle.world_model.specs.CollectorSteps.{SweepMay, round_from, Asks}
 use Rattle.world_model.specs.Histories.{MayBy, May, Legal, state_of, after}
 use Rattle.world_model.specs.Follows.{entry, begins, asks, times_asked, times_begun, IsMade, is_removed, BegunInOrder, AskedInTurn}
+use Rattle.world_model.specs.DestructionQueue.{rotated, in_order}
 use Rattle.world_model.proofs.ListFacts.{and_true, or_right, Among, among_append, among_filter, among_filter_test, filter_among, among_right}
 use Rattle.world_model.proofs.NameFacts.{same_name_true, same_name_refl, has_among, among_has}
 use Rattle.world_model.proofs.Joins.{histories_join}
-use Rattle.world_model.proofs.Rounds.{rotated, find_in_round, has-rotated, next_round, in_removals_at, is_at-at_stage_same, is_at-at_stage_other, is_at-polled, is_at-released, released_by}
-use Rattle.world_model.proofs.Queues.{in_order, find_some, second_part, in_one_part, unit_with, member_of, one_unit, unit_in_order, named_any, fresh, last_stage}
+use Rattle.world_model.proofs.Rounds.{find_in_round, has-rotated, next_round, in_removals_at, is_at-at_stage_same, is_at-at_stage_other, is_at-polled, is_at-released, released_by}
+use Rattle.world_model.proofs.Queues.{find_some, second_part, in_one_part, unit_with, member_of, one_unit, unit_in_order, named_any, fresh, last_stage}
 use Rattle.world_model.proofs.Inductions.{by_states, by_more, one_more, one_more_of, all_trivial}
 use Rattle.world_model.proofs.Counts.{count-append}
 use Rattle.world_model.proofs.Destroying.{order_of, among_new, none_to_begin}
@@ -51,7 +52,7 @@ first_part (m ∷ ns) ms h =
     (λ k. both_ways (has (ns ++ ms) m) (not-true _ parts.0) (list_any-append (same_name m) ns ms ∙ or_left (has ns m) _ k))))
     (first_part ns ms parts.1)
 
-some_units : (p : List Name → Bool) (units : List (List Name)) → all_different (members units) ≡ true → all_different (members (filter p units)) ≡ true
+pub some_units : (p : List Name → Bool) (units : List (List Name)) → all_different (members units) ≡ true → all_different (members (filter p units)) ≡ true
 some_units p [] d = refl
 some_units p (u ∷ units) d = go (p u) (some_units p units (second_part u (members units) d))
   where
@@ -61,7 +62,7 @@ some_units p (u ∷ units) d = go (p u) (some_units p units (second_part u (memb
         in_one_part u (members units) n d (has_among u n k) (member_of units v.0 n (among_filter p units v.0 v.1) v.2))
     go false rest = rest
 
-begins_both : (n m : Name) (u : List Name) → begins_with n u ≡ true → begins_with m u ≡ true → n ≡ m
+pub begins_both : (n m : Name) (u : List Name) → begins_with n u ≡ true → begins_with m u ≡ true → n ≡ m
 begins_both n m [] a b = absurd cc
 begins_both n m (x ∷ u) a b = same_name_true n x a ∙ sym (same_name_true m x b)
 

@@ -11,16 +11,10 @@ use Rattle.world_model.specs.NameLists.{has, all_different, ends_with, but_last,
 use Rattle.world_model.specs.State.{State, beginning, is_marked}
 use Rattle.world_model.specs.Next.{next_world, next, run}
 use Rattle.world_model.specs.Histories.{MayBy, Legal, LegalFrom, after}
+use Rattle.world_model.specs.Midway.{AreApart}
 use Rattle.world_model.proofs.ListFacts.{Among, among_append, among_filter}
 use Rattle.world_model.proofs.NameFacts.{names_from_range, member_of_one}
 use Rattle.world_model.proofs.Loosening.{among_parted, which_part, in_part, different_left}
-
--- each member was made by its lane, no name stands in two units, and none twice in one; and each unit is of one lane
-pub record AreApart (kinds : ℕ → List Kind) (units : List (List Name)) : Type 0 where
-  pub made : (u : List Name) (n : Name) → Among units u → has u n ≡ true → n.count ≤ length (kinds n.lane)
-  pub apart : (u v : List Name) (n : Name) → Among units u → Among units v → has u n ≡ true → has v n ≡ true → u ≡ v
-  pub different : (u : List Name) → Among units u → all_different u ≡ true
-  pub one_lane : (u : List Name) (n m : Name) → Among units u → has u n ≡ true → has u m ≡ true → n.lane ≡ m.lane
 
 -- a lane that makes more names has made no fewer, and the new ones are among them
 pub grown : (kinds : ℕ → List Kind) (lane : ℕ) (more : List Kind) (l : ℕ) → length (kinds l) ≤ length (set_at kinds lane (kinds lane ++ more) l)
@@ -42,7 +36,7 @@ new_made kinds lane more n own below = go (n.lane == lane) refl
     go false e = absurd (let t : (n.lane == lane) ≡ true = eq-eqb n.lane lane own in let f : (n.lane == lane) ≡ false = e in cc)
 
 -- new names are all different
-new_different : (lane first : ℕ) (kinds : List Kind) → all_different (names_from lane first kinds) ≡ true
+pub new_different : (lane first : ℕ) (kinds : List Kind) → all_different (names_from lane first kinds) ≡ true
 new_different lane first [] = refl
 new_different lane first (k ∷ kinds) =
     and_from _ _ (not_from_false _ (false_from_ne_true _ (λ is. let range = names_from_range lane (first + 1) kinds (record { lane = lane; count = first }) is in absurd (omega (arith, range.1)))))

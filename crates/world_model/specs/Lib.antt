@@ -3,6 +3,7 @@
 pub mod Types
 pub mod Sizes
 -- small words on names and lists
+pub mod Lists
 pub mod NameLists
 -- the world of objects, and what the root set reaches in it
 pub mod World
@@ -18,6 +19,9 @@ pub mod CollectorSteps
 -- legal histories, and the entries of one call while nothing else runs
 pub mod Histories
 pub mod Calls
+-- what an engine's queue of destruction holds, and what a unit is while it is taken apart
+pub mod DestructionQueue
+pub mod Midway
 -- the words of the hooks, and of an engine's contract
 pub mod Hooks
 pub mod Engines

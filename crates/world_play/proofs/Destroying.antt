@@ -26,6 +26,8 @@ use Rattle.world_model.specs.Hooks.{class_of}
 use Rattle.world_play.specs.Collections.{AnswersBy, PurgesAll}
 use Rattle.world_play.proofs.Different.{has_append}
 use Rattle.std.proofs.lemmas.List.Sums.{sum_by-cons}
+use Rattle.world_model.proofs.Queues.{find_some, member_of}
+use Rattle.world_model.proofs.Rounds.{has_stage_true}
 
 -- ---- what is left to do
 
@@ -77,17 +79,6 @@ removed_name stage (r ∷ removals) n h = go (removed_name stage removals n) (or
 abbrev staged : Name → Stage → Removal → Removal
 staged of stage r = cond (same_name of r.name) (record r { stage = stage }) r
 
-stage_is : (a b : Stage) → has_stage a b ≡ true → a ≡ b
-stage_is Removed Removed h = refl
-stage_is Begun Begun h = refl
-stage_is Finished Finished h = refl
-stage_is Removed Begun h = absurd cc
-stage_is Removed Finished h = absurd cc
-stage_is Begun Removed h = absurd cc
-stage_is Begun Finished h = absurd cc
-stage_is Finished Removed h = absurd cc
-stage_is Finished Begun h = absurd cc
-
 -- the names stay
 pub names_staged : (of : Name) (stage : Stage) (removals : List Removal) → names_of (map (staged of stage) removals) ≡ names_of removals
 names_staged of stage [] = refl
@@ -129,7 +120,7 @@ restaged of old new (r ∷ removals) different at =
         → (stage_weight (staged of new r).stage + weight (map (staged of new) removals)) + stage_weight old ≡ (stage_weight r.stage + weight removals) + stage_weight new
     go true same apart (inl here) rest =
         let name : of ≡ r.name = same_name_true of r.name same in
-        let stage : old ≡ r.stage = stage_is old r.stage (and_true _ _ here).1 in
+        let stage : old ≡ r.stage = has_stage_true old r.stage (and_true _ _ here).1 in
         let others : weight (map (staged of new) removals) ≡ weight removals
         = staged_none of new removals (ap (has (names_of removals)) name ∙ gone (has (names_of removals) r.name) apart) in
         let weights : stage_weight old ≡ stage_weight r.stage = ap stage_weight stage in
@@ -193,14 +184,6 @@ names_filter p (r ∷ removals) h =
 
 -- ---- the unit that is released
 
-find_some : {A : Type 0} (p : A → Bool) (xs : List A) (x : A) → find p xs ≡ Some x → Among xs x × (p x ≡ true)
-find_some p [] x e = absurd cc
-find_some p (y ∷ xs) x e = go (p y) refl e (find_some p xs x)
-  where
-    go : (b : Bool) → p y ≡ b → cond b (Some y) (find p xs) ≡ Some x → (find p xs ≡ Some x → Among xs x × (p x ≡ true)) → Among (y ∷ xs) x × (p x ≡ true)
-    go true t e more = let same : y ≡ x = cc in (inl same, subst (λ (z : _). p z ≡ true) same t)
-    go false t e more = let rest = more e in (inr rest.0, rest.1)
-
 then_some : {A B : Type 0} (f : A → Option B) (o : Option A) (y : B) → option_and_then f o ≡ Some y → (x : A) × (o ≡ Some x) × (f x ≡ Some y)
 then_some f None y e = absurd cc
 then_some f (Some x) y e = (x, refl, e)
@@ -213,11 +196,6 @@ in_order units (n ∷ found) u h = go (among_append (filter (begins_with n) unit
         → (Among (flat_map (λ m. filter (begins_with m) units) found) u → Among units u) → Among units u
     go (inl a) rest = among_filter (begins_with n) units u a
     go (inr b) rest = rest b
-
-has_members : (units : List (List Name)) (u : List Name) (n : Name) → Among units u → has u n ≡ true → has (members units) n ≡ true
-has_members [] u n among h = absurd among
-has_members (v ∷ units) u n (inl same) h = has_append v (members units) n ∙ ap (λ (b : Bool). b || has (members units) n) (ap (λ (x : List Name). has x n) same ∙ h)
-has_members (v ∷ units) u n (inr later) h = has_append v (members units) n ∙ or_right (has v n) _ (has_members units u n later h)
 
 -- its first member is finished, and is released with it
 release_first : (w : World) (of : Name) → to_release w ≡ Some of → (is_at w Finished of ≡ true) × (has (members (filter (begins_with of) w.last_removed)) of ≡ true)
@@ -234,7 +212,7 @@ release_first w of e =
         let begins : begins_with of (n ∷ rest) ≡ true = subst (λ (m : Name). same_name of m ≡ true) (sym same) (same_name_refl of) in
         let own : has (n ∷ rest) of ≡ true = ap (λ (b : Bool). b || has rest of) begins in (
           subst (λ (m : Name). is_at w Finished m ≡ true) same (and_true (is_at w Finished n) _ all).0,
-          has_members (filter (begins_with of) w.last_removed) (n ∷ rest) of (filter_among (begins_with of) w.last_removed (n ∷ rest) among begins) own,
+          member_of (filter (begins_with of) w.last_removed) (n ∷ rest) of (filter_among (begins_with of) w.last_removed (n ∷ rest) among begins) own,
         )
 
 -- ---- parts of a purge

@@ -8,15 +8,17 @@ use Rattle.world_model.specs.NameLists.{same_name, has, all_different, members, 
 use Rattle.world_model.specs.State.{State, beginning, is_marked}
 use Rattle.world_model.specs.Next.{next_world, next, run}
 use Rattle.world_model.specs.Histories.{MayBy, Legal, LegalFrom, after}
+use Rattle.world_model.specs.Midway.{AreApart}
 use Rattle.world_model.proofs.ListFacts.{and_true, or_true, or_right}
 use Rattle.world_model.proofs.NameFacts.{same_name_true, same_name_refl, names_from_range}
 use Rattle.world_model.proofs.Loosening.{members_parted}
-use Rattle.world_model.proofs.Units.{AreApart, next_apart}
+use Rattle.world_model.proofs.Units.{next_apart, new_different}
 use Rattle.world_model.proofs.NameFacts.{has_among, among_members}
 use Rattle.world_play.specs.Types.{Name, Kind, Pass, Lane, Marker, Collector, Act, Entry}
 use Rattle.world_play.specs.Types.act
 use Rattle.world_play.specs.Types.begin
 use Rattle.world_play.specs.Types.commit
+use Rattle.world_model.proofs.Turns.{some_units}
 
 -- ---- lists of names
 
@@ -54,39 +56,7 @@ different_parts (x ∷ xs) ys h =
 
 -- ---- some of the units
 
--- a name of none of the units is of none of some of them
-fewer_members : (test : List Name → Bool) (units : List (List Name)) (n : Name)
-    → has (members units) n ≡ false → has (members (filter test units)) n ≡ false
-fewer_members test [] n h = h
-fewer_members test (u ∷ units) n h =
-    let parts = or_parts (has u n) (has (members units) n) (sym (has_append u (members units) n) ∙ h) in
-    go (test u) parts.0 (fewer_members test units n parts.1)
-  where
-    go : (b : Bool) → has u n ≡ false → has (members (filter test units)) n ≡ false
-        → has (members (cond b (u ∷ filter test units) (filter test units))) n ≡ false
-    go true first rest = has_append u (members (filter test units)) n ∙ or_from (has u n) _ first rest
-    go false first rest = rest
-
-pub different_filter : (test : List Name → Bool) (units : List (List Name)) → all_different (members units) ≡ true → all_different (members (filter test units)) ≡ true
-different_filter test [] h = h
-different_filter test (u ∷ units) h =
-    let parts = different_parts u (members units) h in
-    let apart : NoneShared u (members (filter test units)) = λ n e. fewer_members test units n (parts.2 n e) in
-    go (test u) parts.0 apart (different_filter test units parts.1)
-  where
-    go : (b : Bool) → all_different u ≡ true → NoneShared u (members (filter test units)) → all_different (members (filter test units)) ≡ true
-        → all_different (members (cond b (u ∷ filter test units) (filter test units))) ≡ true
-    go true own apart rest = different_append u (members (filter test units)) own rest apart
-    go false own apart rest = rest
-
 -- ---- one more unit
-
-different_row : (lane first : ℕ) (kinds : List Kind) → all_different (names_from lane first kinds) ≡ true
-different_row lane first [] = refl
-different_row lane first (kind ∷ kinds) = rw (none, different_row lane (first + 1) kinds) refl
-  where
-    none : has (names_from lane (first + 1) kinds) (record { lane = lane; count = first }) ≡ false
-    none = false_from_ne_true _ (λ e. let range = names_from_range lane (first + 1) kinds _ e in absurd (omega (arith, range.1)))
 
 -- new names are none of those that were made
 new_names : (kinds : ℕ → List Kind) (units : List (List Name)) (lane first : ℕ) (more : List Kind)
@@ -109,7 +79,7 @@ with_unit_different kinds units lane first more is apart h =
     let same : members (units ++ row ∷ []) ≡ members units ++ row =
     flat_map-append (λ u. u) units (row ∷ []) ∙ ap (λ (xs : List Name). members units ++ xs) (append-nil row) in
     subst (λ (xs : List Name). all_different xs ≡ true) (sym same)
-    (different_append (members units) row h (different_row lane first more) (new_names kinds units lane first more is apart))
+    (different_append (members units) row h (new_different lane first more) (new_names kinds units lane first more is apart))
 
 -- ---- each step, and all of them
 
@@ -119,7 +89,7 @@ next_different z s (Lane lane) (act.Make kinds first) may apart h =
     with_unit_different s.world.kinds s.world.units lane first kinds may.may.next apart h
 next_different z s (Marker marker) (act.Make kinds first) may apart h = absurd may.may
 next_different z s Collector (act.Make kinds first) may apart h = absurd may.may
-next_different z s p (act.CommitGc commit.Done) may apart h = different_filter (is_marked s.marks) s.world.units h
+next_different z s p (act.CommitGc commit.Done) may apart h = some_units (is_marked s.marks) s.world.units h
 next_different z s p (act.Loose of) may apart h = ap all_different (members_parted of s.world.units) ∙ h
 next_different z s p (act.BeginGc begin.Started) may apart h = h
 next_different z s p _ may apart h = h

@@ -30,7 +30,9 @@ use Rattle.world_model.proofs.Reached.{reached_told, told_reached}
 use Rattle.world_model.specs.Hooks.{class_of}
 use Rattle.world_play.proofs.Order.{same_order}
 use Rattle.world_play.proofs.Destroying.{weight, weight_most, names_of, removed_name, InTable, purges_end}
-use Rattle.world_play.proofs.Different.{NoneShared, has_append, different_append, different_filter, members_different}
+use Rattle.world_play.proofs.Different.{NoneShared, has_append, different_append, members_different}
+use Rattle.world_model.proofs.Counts.{names_new}
+use Rattle.world_model.proofs.Turns.{some_units}
 
 -- ---- what a world shows
 
@@ -100,10 +102,6 @@ filter_same p q (x ∷ xs) same =
     ap (λ (b : Bool). cond b (x ∷ filter p xs) (filter p xs)) (same x (inl refl))
     ∙ ap (λ (ys : List _). cond (q x) (x ∷ ys) ys) (filter_same p q xs (λ y h. same y (inr h)))
 
-names_of_new : (names : List Name) → names_of (map (λ n. record { name = n; stage = Removed; polls = 0 }) names) ≡ names
-names_of_new [] = refl
-names_of_new (n ∷ names) = ap (λ (rest : List Name). n ∷ rest) (names_of_new names)
-
 -- a commit that keeps the reached units leaves the scene that a collection leaves, and removes what is not reached
 committed_scene : (z : Sizes) (m : Marks) (w : World) → IsCalm z w → KeepsReached (graph w) (graph (committed m w))
     → (scene_of (committed m w) ≡ collected z (scene_of w)) × (names_of (committed m w).removals ≡ unreached z (scene_of w))
@@ -122,7 +120,7 @@ committed_scene z m w calm keeps =
             rooted = λ n. w.rooted n && not (has (gone i) n);
             opened = w.opened;
           },
-      names_of_new (members (white_units m w)) ∙ gone,
+      names_new (members (white_units m w)) ∙ gone,
     )
 
 -- ---- sweeps
@@ -319,7 +317,7 @@ module _ (z : Sizes) (budget : ℕ) (header : Header) (old piece : List Entry) (
       ∙ ap (λ (t : State). t.collector.agreed) (run-append s half (more ++ by Collector last) ∙ run-append (run s half) more (by Collector last))
 
   gone_different : all_different (unreached z (scene_of w)) ≡ true
-  gone_different = different_filter _ w.units (members_different z old before)
+  gone_different = some_units _ w.units (members_different z old before)
 
   -- the removed objects are those that no root reaches
   names_gone : names_of swept.world.removals ≡ unreached z (scene_of w)
