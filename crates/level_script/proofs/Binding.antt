@@ -16,9 +16,11 @@ use Rattle.class_schema.specs.declared.field.FieldKind.{FieldKind}
 use Rattle.class_schema.specs.declared.refusal.SchemaErr.{SchemaErr}
 use Rattle.level_script.specs.Commands.{pair_of, class_names, class_words, class_line, count_of, field_of, two_names, field_said, field_elements, field_words, field_line, said_by_words, said_by_line}
 use Rattle.level_script.specs.Context.{start, with_classes, with_named, elements_in, kind_found, field_known, field_counted, with_lane, lane_at, lane_of, if_said, turn}
-use Rattle.level_script.specs.Following.{binds_name, is_close, says_of, line_of, IsBoundBy, is_some, BoundByLines}
+use Rattle.level_script.specs.Following.{is_bound_by, binds_name, is_close, says_of, line_of, IsBoundBy, BoundByLines}
 use Rattle.level_script.specs.Forms.{identifier_of, is_comment}
-use Rattle.level_script.specs.Lanes.{closed_lane, bound_new, root_of, bound_var, if_bound, element_in, spot_found, bound_target, set_at, set_in, get_at, get_in, put_at, put_in, take_at, take_in, print_of, lane_step, lane_index}
+use Rattle.level_script.specs.LaneCommands.{frame_of}
+use Rattle.level_script.specs.Lanes.{closed_lane, bound_var, if_bound, with_bound, with_frame, command_found, left_by, with_command, lane_step, lane_index}
+use Rattle.level_script.specs.Operands.{allows, closes, is_some, is_in_range}
 use Rattle.level_script.specs.Lines.{line_words}
 use Rattle.level_script.specs.Names.{number_of_name, number_in, with_name, has_number, with_number}
 use Rattle.level_script.specs.Reading.{line_turn, read_from}
@@ -27,13 +29,14 @@ use Rattle.level_script.specs.declared.cause.Cause.TheVariants as cause
 use Rattle.level_script.specs.declared.context.Context.{Context}
 use Rattle.level_script.specs.declared.lanes.LaneNames.{LaneNames}
 use Rattle.level_script.specs.declared.said.Does.{Does}
-use Rattle.level_script.specs.declared.said.Does.TheVariants as does
 use Rattle.level_script.specs.declared.said.FieldOf.{FieldOf}
-use Rattle.level_script.specs.declared.said.Place.{Place}
 use Rattle.level_script.specs.declared.said.Said.{Said}
 use Rattle.level_script.specs.declared.said.Said.TheVariants as said
-use Rattle.level_script.specs.declared.script.LaneCmd.{LaneCmd}
-use Rattle.level_script.specs.declared.script.Spot.{Spot}
+use Rattle.level_script.specs.declared.lane_cmd.LaneCmd.{LaneCmd}
+use Rattle.level_script.specs.declared.operand.Binds.{Binds}
+use Rattle.level_script.specs.declared.operand.Binds.TheVariants as binds
+use Rattle.level_script.specs.declared.operand.Frame.{Frame}
+use Rattle.level_script.specs.declared.operand.Frame.TheVariants as frame
 use Rattle.level_script.proofs.Framing.{ok_same, err_ok, some_same, any_place, length_push, short_enough, both, and_both, on_ok}
 
 -- ---- places of names
@@ -223,13 +226,17 @@ kept : (b : Bool) → b ≡ ((b && true) || false)
 kept true = refl
 kept false = refl
 
-binds : (b c : Bool) → (b || c) ≡ ((b && true) || c)
-binds true c = refl
-binds false c = refl
+not_closed : (b : Bool) → b ≡ (b && true)
+not_closed true = refl
+not_closed false = refl
 
-closed : (b : Bool) → false ≡ ((b && false) || false)
+closed : (b : Bool) → false ≡ (b && false)
 closed true = refl
 closed false = refl
+
+nothing_more : (b : Bool) → b ≡ (b || false)
+nothing_more true = refl
+nothing_more false = refl
 
 module _ (lane : LaneNames) (name : List ℕ) where
   -- an answer tells what is bound
@@ -246,67 +253,26 @@ module _ (lane : LaneNames) (name : List ℕ) where
   either now true r s x y = x
   either now false r s x y = y
 
-  -- the lane is what it was
-  same : is_bound lane name ≡ bound_by name does.Open (is_bound lane name)
-  same = kept (is_bound lane name)
+  -- the frame ends what is bound where it closes
+  framed_bound : (f : Frame) → is_bound (with_frame f lane) name ≡ (is_bound lane name && not (closes f))
+  framed_bound frame.Opens = not_closed (is_bound lane name)
+  framed_bound frame.Closes = bound_none (number_of_name lane.names name) ∙ closed (is_bound lane name)
+  framed_bound frame.Inside = not_closed (is_bound lane name)
 
-  new_tells : (var : List ℕ) (o : Option ClassId) → Tells ((is_bound lane name && true) || bytes_eq name var) (bound_new lane var o)
-  new_tells var None = fails _ cause.UnknownName
-  new_tells var (Some class) = tells _ _ _ (bound_more lane.opened lane var name ∙ binds (is_bound lane name) (bytes_eq name var))
+  binds_more : (b : Binds) (l : LaneNames) → is_bound (with_bound b l) name ≡ (is_bound l name || is_bound_by name b)
+  binds_more binds.Nothing l = nothing_more (is_bound l name)
+  binds_more (binds.Var var) l = bound_more l.opened l var name
 
-  root_tells : (on : Bool) (o : Option ℕ) → Tells ((is_bound lane name && true) || false) (root_of lane on o)
-  root_tells on None = fails _ cause.UnknownName
-  root_tells on (Some n) = tells _ _ _ same
-
-  print_tells : (o : Option ℕ) → Tells ((is_bound lane name && true) || false) (print_of lane o)
-  print_tells None = fails _ cause.UnknownName
-  print_tells (Some n) = tells _ _ _ same
-
-  set_tells : (s : Option Spot) (t : Option (Option ℕ)) → Tells ((is_bound lane name && true) || false) (set_at lane s t)
-  set_tells None t = fails _ cause.UnknownName
-  set_tells (Some spot) None = fails _ cause.UnknownName
-  set_tells (Some spot) (Some to) = tells _ _ _ same
-
-  set_in_tells : (fields : List (List ℕ)) (place : Place) (to : Option (List ℕ)) (o : Option ℕ) → Tells ((is_bound lane name && true) || false) (set_in fields lane place to o)
-  set_in_tells fields place to None = fails _ cause.Number
-  set_in_tells fields place to (Some element) = either _ lane.opened _ _ (set_tells (spot_found lane fields place element) (bound_target lane to)) (fails _ cause.Frame)
-
-  get_tells : (var : List ℕ) (s : Option Spot) → Tells ((is_bound lane name && true) || bytes_eq name var) (get_at lane var s)
-  get_tells var None = fails _ cause.UnknownName
-  get_tells var (Some spot) = tells _ _ _ (bound_more lane.opened lane var name ∙ binds (is_bound lane name) (bytes_eq name var))
-
-  get_in_tells : (fields : List (List ℕ)) (var : List ℕ) (place : Place) (o : Option ℕ) → Tells ((is_bound lane name && true) || bytes_eq name var) (get_in fields lane var place o)
-  get_in_tells fields var place None = fails _ cause.Number
-  get_in_tells fields var place (Some element) = either _ lane.opened _ _ (get_tells var (spot_found lane fields place element)) (fails _ cause.Frame)
-
-  put_tells : (value : ℕ) (s : Option Spot) → Tells ((is_bound lane name && true) || false) (put_at lane value s)
-  put_tells value None = fails _ cause.UnknownName
-  put_tells value (Some spot) = tells _ _ _ same
-
-  put_in_tells : (fields : List (List ℕ)) (place : Place) (o value : Option ℕ) → Tells ((is_bound lane name && true) || false) (put_in fields lane place o value)
-  put_in_tells fields place None value = fails _ cause.Number
-  put_in_tells fields place (Some element) None = fails _ cause.Number
-  put_in_tells fields place (Some element) (Some value) = either _ lane.opened _ _ (put_tells value (spot_found lane fields place element)) (fails _ cause.Frame)
-
-  take_tells : (s : Option Spot) → Tells ((is_bound lane name && true) || false) (take_at lane s)
-  take_tells None = fails _ cause.UnknownName
-  take_tells (Some spot) = tells _ _ _ same
-
-  take_in_tells : (fields : List (List ℕ)) (place : Place) (o : Option ℕ) → Tells ((is_bound lane name && true) || false) (take_in fields lane place o)
-  take_in_tells fields place None = fails _ cause.Number
-  take_in_tells fields place (Some element) = either _ lane.opened _ _ (take_tells (spot_found lane fields place element)) (fails _ cause.Frame)
+  found_tells : (what : Does) (o : Option LaneCmd) → Tells (bound_by name what (is_bound lane name)) (with_command (left_by what lane) o)
+  found_tells what None = fails _ cause.UnknownName
+  found_tells what (Some command) =
+      tells _ _ command (binds_more what.binds (with_frame (frame_of what.verb) lane) ∙ ap (λ (b : Bool). b || binds_name name what) (framed_bound (frame_of what.verb)))
 
   -- Each thing that a lane does binds the names that it says, and a close ends all.
   step_tells : (classes : List Class) (fields : List (List ℕ)) (what : Does) → Tells (bound_by name what (is_bound lane name)) (lane_step classes fields lane what)
-  step_tells classes fields does.Open = either _ lane.opened _ _ (fails _ cause.Frame) (tells _ _ _ same)
-  step_tells classes fields does.Close = either _ lane.opened _ _ (tells _ _ _ (bound_none (number_of_name lane.names name) ∙ closed (is_bound lane name))) (fails _ cause.Frame)
-  step_tells classes fields (does.New var class) = either _ lane.opened _ _ (new_tells var (find_class classes class)) (fails _ cause.Frame)
-  step_tells classes fields (does.Root var on) = either _ lane.opened _ _ (root_tells on (bound_var lane var)) (fails _ cause.Frame)
-  step_tells classes fields (does.Set place to) = set_in_tells fields place to (element_in place.element)
-  step_tells classes fields (does.Get var place) = get_in_tells fields var place (element_in place.element)
-  step_tells classes fields (does.Put place value) = put_in_tells fields place (element_in place.element) value
-  step_tells classes fields (does.Take place) = take_in_tells fields place (element_in place.element)
-  step_tells classes fields (does.Print var) = either _ lane.opened _ _ (print_tells (bound_var lane var)) (fails _ cause.Frame)
+  step_tells classes fields what =
+      either _ (is_in_range what.first && is_in_range what.second) _ _
+      (either _ (allows (frame_of what.verb) lane.opened) _ _ (found_tells what (command_found classes fields lane what)) (fails _ cause.Frame)) (fails _ cause.Number)
 
 -- ---- a line
 

@@ -17,10 +17,12 @@ use Rattle.class_schema.specs.declared.field.FieldKind.{FieldKind}
 use Rattle.class_schema.specs.declared.refusal.SchemaErr.{SchemaErr}
 use Rattle.level_script.specs.Commands.{said_by_line}
 use Rattle.level_script.specs.Context.{start, with_line, with_classes, with_named, elements_in, kind_found, field_known, field_counted, with_lane, lane_at, lane_of, act_turn, if_said, turn, script_from}
-use Rattle.level_script.specs.Frames.{opened_after, fits_spot, fits_target, fits_lane, fits, frames_after, are_framed, IsAtOnce, IsNamed, IsPlayable}
+use Rattle.level_script.specs.Frames.{opened_after, fits_lane, fits, frames_after, are_framed, IsAtOnce, IsNamed, IsPlayable}
 use Rattle.level_script.specs.Forms.{is_identifier}
 use Rattle.level_script.proofs.Naming.{SaysName, SaysNameIfOk, identifier_bytes, line_says}
-use Rattle.level_script.specs.Lanes.{closed_lane, count_of, bound_new, root_of, bound_var, if_bound, element_in, spot_with, spot_found, bound_target, set_at, set_in, get_at, get_in, put_at, put_in, take_at, take_in, print_of, lane_step, lane_index}
+use Rattle.level_script.specs.LaneCommands.{frame_of, of_both, command_of, frame_by}
+use Rattle.level_script.specs.Lanes.{closed_lane, count_of, bound_var, if_bound, with_bound, known_bound, with_frame, spot_with, spot_found, bound_target, known_of, command_known, command_found, left_by, with_command, lane_step, lane_index}
+use Rattle.level_script.specs.Operands.{allows, opened_by, element_in, is_in_range, var_known, target_known, class_known, spot_known, switch_known, value_known, fits_spot, fits_target, fits_known}
 use Rattle.level_script.specs.Lines.{input_lines}
 use Rattle.level_script.specs.Names.{number_of_name, number_in, with_name, has_number}
 use Rattle.level_script.specs.Reading.{line_turn, read_from, read_on, fault_at, outcome_of, script_of, script_of_lines}
@@ -31,17 +33,26 @@ use Rattle.level_script.specs.declared.context.Context.{Context}
 use Rattle.level_script.specs.declared.lanes.LaneNames.{LaneNames}
 use Rattle.level_script.specs.declared.limits.Limits.{Limits}
 use Rattle.level_script.specs.declared.said.Does.{Does}
-use Rattle.level_script.specs.declared.said.Does.TheVariants as does
 use Rattle.level_script.specs.declared.said.Said.{Said}
 use Rattle.level_script.specs.declared.said.Said.TheVariants as said
 use Rattle.level_script.specs.declared.script.Cmd.{Cmd}
 use Rattle.level_script.specs.declared.script.Cmd.TheVariants as cmd
-use Rattle.level_script.specs.declared.script.LaneCmd.{LaneCmd}
-use Rattle.level_script.specs.declared.script.LaneCmd.TheVariants as lane_cmd
+use Rattle.level_script.specs.declared.lane_cmd.LaneCmd.{LaneCmd}
+use Rattle.level_script.specs.declared.lane_cmd.LaneCmd.TheVariants as lane_cmd
+use Rattle.level_script.specs.declared.lane_cmd.Verb.{Verb}
+use Rattle.level_script.specs.declared.lane_cmd.Verb.TheVariants as verb
+use Rattle.level_script.specs.declared.operand.Binds.{Binds}
+use Rattle.level_script.specs.declared.operand.Binds.TheVariants as binds
+use Rattle.level_script.specs.declared.operand.Frame.{Frame}
+use Rattle.level_script.specs.declared.operand.Frame.TheVariants as frame
+use Rattle.level_script.specs.declared.operand.Known.{Known}
+use Rattle.level_script.specs.declared.operand.Known.TheVariants as known
+use Rattle.level_script.specs.declared.operand.Operand.{Operand}
+use Rattle.level_script.specs.declared.operand.Operand.TheVariants as operand
 use Rattle.level_script.specs.declared.script.GcCmd.TheVariants as gc_cmd
 use Rattle.level_script.specs.declared.script.Line.{Line}
 use Rattle.level_script.specs.declared.script.Spot.{Spot}
-use Rattle.level_script.specs.declared.said.Place.{Place}
+use Rattle.level_script.specs.declared.operand.Place.{Place}
 use Rattle.level_script.specs.declared.said.FieldOf.{FieldOf}
 use Rattle.level_script.specs.declared.script.Script.{Script}
 
@@ -143,40 +154,6 @@ record StepFacts (classes : List Class) (fields : List (List ℕ)) (lane left : 
 abbrev FactsOf : List Class → List (List ℕ) → LaneNames → LaneNames × LaneCmd → Type 0
 FactsOf classes fields lane (left, command) = StepFacts classes fields lane left command
 
--- the frame opens
-open_facts : (classes : List Class) (fields : List (List ℕ)) (lane : LaneNames) (b : Bool) → lane.opened ≡ b → (left : LaneNames × LaneCmd)
-    → cond b (Err cause.Frame) (Ok (record lane { opened = true }, lane_cmd.Open)) ≡ Ok left → FactsOf classes fields lane left
-open_facts classes fields lane true is left e = err_ok e
-open_facts classes fields lane false is left e = subst (FactsOf classes fields lane) (ok_same e) (record { opened = refl; grows = omega arith; fit = λ vars count names few some named. ap not is })
-
--- the frame closes
-close_facts : (classes : List Class) (fields : List (List ℕ)) (lane : LaneNames) (b : Bool) → lane.opened ≡ b → (left : LaneNames × LaneCmd)
-    → cond b (Ok (record { opened = false; names = lane.names; bound = [] }, lane_cmd.Close)) (Err cause.Frame) ≡ Ok left
-    → FactsOf classes fields lane left
-close_facts classes fields lane false is left e = err_ok e
-close_facts classes fields lane true is left e = subst (FactsOf classes fields lane) (ok_same e) (record { opened = refl; grows = omega arith; fit = λ vars count names few some named. is })
-
--- a variable is bound to a class that is known
-bound_facts : (classes : List Class) (fields : List (List ℕ)) (lane : LaneNames) (var class : List ℕ) (o : Option ClassId) → lane.opened ≡ true
-    → find_class classes class ≡ o → (left : LaneNames × LaneCmd) → bound_new lane var o ≡ Ok left → FactsOf classes fields lane left
-bound_facts classes fields lane var class None is found left e = err_ok e
-bound_facts classes fields lane var class (Some id) is found left e =
-    subst (FactsOf classes fields lane) (ok_same e) (record {
-      opened = refl;
-      grows = names_grow lane.names var;
-      fit = λ vars count names few some named.
-          (λ t.
-          is t && below_true (number_in lane.names var) (length (with_name lane.names var)) vars (number_below lane.names var) few t
-          && below_true id.0 (length classes) count (class_below classes class id found) some t);
-    })
-
--- a variable is bound
-new_facts : (classes : List Class) (fields : List (List ℕ)) (lane : LaneNames) (var class : List ℕ) (b : Bool) → lane.opened ≡ b
-    → (left : LaneNames × LaneCmd) → cond b (bound_new lane var (find_class classes class)) (Err cause.Frame) ≡ Ok left
-    → FactsOf classes fields lane left
-new_facts classes fields lane var class false is left e = err_ok e
-new_facts classes fields lane var class true is left e = bound_facts classes fields lane var class (find_class classes class) is refl left e
-
 -- a variable that is bound has its number
 if_bound_some : (bound : List ℕ) (o : Option ℕ) (n : ℕ) → if_bound bound o ≡ Some n → o ≡ Some n
 if_bound_some bound None n e = absurd (cc)
@@ -190,64 +167,30 @@ if_bound_some bound (Some m) n e = has_some (has_number bound m) e
 bound_below : (lane : LaneNames) (var : List ℕ) (n : ℕ) → bound_var lane var ≡ Some n → n < count_of lane
 bound_below lane var n e = found_below lane.names var n (if_bound_some lane.bound (number_of_name lane.names var) n e)
 
--- the object of a variable that is bound becomes a root, or is one no longer
-rooted_facts : (classes : List Class) (fields : List (List ℕ)) (lane : LaneNames) (var : List ℕ) (on : Bool) (o : Option ℕ) → lane.opened ≡ true
-    → bound_var lane var ≡ o → (left : LaneNames × LaneCmd) → root_of lane on o ≡ Ok left → FactsOf classes fields lane left
-rooted_facts classes fields lane var on None is found left e = err_ok e
-rooted_facts classes fields lane var on (Some n) is found left e =
-    let below = bound_below lane var n found in
-    subst (FactsOf classes fields lane) (ok_same e)
-    (record {
-      opened = refl;
-      grows = omega arith;
-      fit = λ vars count names few some named. (λ t. is t && below_true n (length lane.names) vars below few t);
-    })
+-- ---- what words stand for
 
-root_facts : (classes : List Class) (fields : List (List ℕ)) (lane : LaneNames) (var : List ℕ) (on b : Bool) → lane.opened ≡ b
-    → (left : LaneNames × LaneCmd) → cond b (root_of lane on (bound_var lane var)) (Err cause.Frame) ≡ Ok left → FactsOf classes fields lane left
-root_facts classes fields lane var on false is left e = err_ok e
-root_facts classes fields lane var on true is left e = rooted_facts classes fields lane var on (bound_var lane var) is refl left e
+-- what is so of each value is so of the one that a value gives
+mapped : {A B : Type 0} (P : B → Type 0) (make : A → B) (o : Option A) (b : B) → ((a : A) → o ≡ Some a → P (make a)) → option_map make o ≡ Some b → P b
+mapped P make None b h e = absurd cc
+mapped P make (Some a) b h e = subst P (some_same e) (h a refl)
 
--- the object of a variable that is bound is told
-printed_facts : (classes : List Class) (fields : List (List ℕ)) (lane : LaneNames) (var : List ℕ) (o : Option ℕ) → lane.opened ≡ true
-    → bound_var lane var ≡ o → (left : LaneNames × LaneCmd) → print_of lane o ≡ Ok left → FactsOf classes fields lane left
-printed_facts classes fields lane var None is found left e = err_ok e
-printed_facts classes fields lane var (Some n) is found left e =
-    let below = bound_below lane var n found in
-    subst (FactsOf classes fields lane) (ok_same e)
-    (record {
-      opened = refl;
-      grows = omega arith;
-      fit = λ vars count names few some named. (λ t. is t && below_true n (length lane.names) vars below few t);
-    })
+-- the same of two values
+both_made : {A B : Type 0} (P : LaneCmd → Type 0) (make : A → B → LaneCmd) (o : Option A) (p : Option B) (c : LaneCmd)
+    → ((a : A) (b : B) → o ≡ Some a → p ≡ Some b → P (make a b)) → of_both make o p ≡ Some c → P c
+both_made P make None p c h e = absurd cc
+both_made P make (Some a) None c h e = absurd cc
+both_made P make (Some a) (Some b) c h e = subst P (some_same e) (h a b refl refl)
 
-print_facts : (classes : List Class) (fields : List (List ℕ)) (lane : LaneNames) (var : List ℕ) (b : Bool) → lane.opened ≡ b
-    → (left : LaneNames × LaneCmd) → cond b (print_of lane (bound_var lane var)) (Err cause.Frame) ≡ Ok left → FactsOf classes fields lane left
-print_facts classes fields lane var false is left e = err_ok e
-print_facts classes fields lane var true is left e = printed_facts classes fields lane var (bound_var lane var) is refl left e
-
--- ---- elements of fields
-
--- where a spot is found, its variable is bound and its field has a name
-record SpotFacts (lane : LaneNames) (fields : List (List ℕ)) (spot : Spot) : Type 0 where
-  var : spot.var < count_of lane
-  field : spot.field < length fields
-
-spot_facts : (lane : LaneNames) (fields : List (List ℕ)) (place : Place) (element : ℕ) (o f : Option ℕ) (spot : Spot) → bound_var lane place.var ≡ o
-    → number_of_name fields place.field ≡ f → spot_with element o f ≡ Some spot → SpotFacts lane fields spot
-spot_facts lane fields place element None f spot is named e = absurd cc
-spot_facts lane fields place element (Some var) None spot is named e = absurd cc
-spot_facts lane fields place element (Some var) (Some field) spot is named e =
-    subst (SpotFacts lane fields) (some_same e)
-    (record { var = bound_below lane place.var var is; field = found_below fields place.field field named })
-
--- each spot that is found
-found_facts : (lane : LaneNames) (fields : List (List ℕ)) (place : Place) (element : ℕ) (spot : Spot) → spot_found lane fields place element ≡ Some spot → SpotFacts lane fields spot
-found_facts lane fields place element spot e = spot_facts lane fields place element (bound_var lane place.var) (number_of_name fields place.field) spot refl refl e
-
--- it fits, where there are no fewer variables and names
-spot_fits : (lane : LaneNames) (fields : List (List ℕ)) (spot : Spot) (vars names : ℕ) → SpotFacts lane fields spot → count_of lane ≤ vars → length fields ≤ names → fits_spot vars names spot ≡ true
-spot_fits lane fields spot vars names h few named = and_both _ _ (below_true spot.var (count_of lane) vars h.var few) (below_true spot.field (length fields) names h.field named)
+-- a spot that is found fits, where there are no fewer variables and names
+spot_fits : (lane : LaneNames) (fields : List (List ℕ)) (place : Place) (vars names : ℕ) → count_of lane ≤ vars → length fields ≤ names
+    → (n o f : Option ℕ) → bound_var lane place.var ≡ o → number_of_name fields place.field ≡ f → (spot : Spot) → spot_with n o f ≡ Some spot
+    → fits_spot vars names spot ≡ true
+spot_fits lane fields place vars names few named None o f is found spot e = absurd cc
+spot_fits lane fields place vars names few named (Some n) None f is found spot e = absurd cc
+spot_fits lane fields place vars names few named (Some n) (Some var) None is found spot e = absurd cc
+spot_fits lane fields place vars names few named (Some n) (Some var) (Some field) is found spot e =
+    subst (λ (s : Spot). fits_spot vars names s ≡ true) (some_same e)
+    (and_both _ _ (below_true var (count_of lane) vars (bound_below lane place.var var is) few) (below_true field (length fields) names (found_below fields place.field field found) named))
 
 target_fits : (lane : LaneNames) (to : Option (List ℕ)) (target : Option ℕ) (vars : ℕ) → bound_target lane to ≡ Some target → count_of lane ≤ vars → fits_target vars target ≡ true
 target_fits lane None target vars e few = subst (λ (t : Option ℕ). fits_target vars t ≡ true) (some_same e) refl
@@ -257,88 +200,127 @@ target_fits lane (Some name) target vars e few = go (bound_var lane name) refl e
     go None is e = absurd cc
     go (Some n) is e = subst (λ (t : Option ℕ). fits_target vars t ≡ true) (some_same e) (below_true n (count_of lane) vars (bound_below lane name n is) few)
 
-module _ (classes : List Class) (fields : List (List ℕ)) (lane : LaneNames) where
-  -- what an answer to a line says
-  abbrev Fits : Result (LaneNames × LaneCmd) Cause → Type 0
-  Fits r = (left : LaneNames × LaneCmd) → r ≡ Ok left → FactsOf classes fields lane left
+-- what a word stands for is there, where there are no fewer variables, classes and names
+known_fits : (classes : List Class) (fields : List (List ℕ)) (lane : LaneNames) (vars count names : ℕ) → count_of lane ≤ vars → length classes ≤ count → length fields ≤ names
+    → (word : Operand) (k : Known) → known_of classes fields lane word ≡ Some k → fits_known vars count names k ≡ true
+known_fits classes fields lane vars count names few some named word k e = go word e
+  where
+    Fits : Known → Type 0
+    Fits k = fits_known vars count names k ≡ true
 
-  -- a line that needs an open frame
-  in_frame : (b : Bool) (r : Result (LaneNames × LaneCmd) Cause) → lane.opened ≡ b → (lane.opened ≡ true → Fits r) → Fits (cond b r (Err cause.Frame))
-  in_frame false r is fits left e = err_ok e
-  in_frame true r is fits left e = fits is left e
+    go : (word : Operand) → known_of classes fields lane word ≡ Some k → Fits k
+    go operand.Nothing e = subst Fits (some_same e) refl
+    go (operand.Var name) e = mapped Fits known.Var (bound_var lane name) k (λ n is. below_true n (count_of lane) vars (bound_below lane name n is) few) e
+    go (operand.Target to) e = mapped Fits known.Target (bound_target lane to) k (λ t is. target_fits lane to t vars is few) e
+    go (operand.Class name) e = mapped Fits known.Class (find_class classes name) k (λ id is. below_true id.0 (length classes) count (class_below classes name id is) some) e
+    go (operand.Spot place) e =
+        mapped Fits known.Spot (spot_found lane fields place) k
+        (spot_fits lane fields place vars names few named (element_in place.element) (bound_var lane place.var) (number_of_name fields place.field) refl refl) e
+    go (operand.Switch on) e = subst Fits (some_same e) refl
+    go (operand.Value number) e = mapped Fits known.Value number k (λ n is. refl) e
 
-  set_at_facts : (to : Option (List ℕ)) (s : Option Spot) (t : Option (Option ℕ)) → lane.opened ≡ true
-      → ((spot : Spot) → s ≡ Some spot → SpotFacts lane fields spot) → bound_target lane to ≡ t → Fits (set_at lane s t)
-  set_at_facts to None t is spots target left e = err_ok e
-  set_at_facts to (Some spot) None is spots target left e = err_ok e
-  set_at_facts to (Some spot) (Some var) is spots target left e =
-      subst (FactsOf classes fields lane) (ok_same e) (record {
-        opened = refl;
-        grows = omega arith;
-        fit = λ vars count names few some named. and_both _ _ (and_both _ _ is (spot_fits lane fields spot vars names (spots spot refl) few named)) (target_fits lane to var vars target few);
-      })
+-- ---- a command
 
-  set_facts : (place : Place) (to : Option (List ℕ)) (o : Option ℕ) → Fits (set_in fields lane place to o)
-  set_facts place to None left e = err_ok e
-  set_facts place to (Some element) left e =
-      in_frame lane.opened _ refl (λ is. set_at_facts to (spot_found lane fields place element) (bound_target lane to) is (found_facts lane fields place element) refl) left e
+-- What a word stands for is there, and so is what the word's command names by it. Each command is a line of `command_fits`.
+module _ (vars count names : ℕ) where
+  abbrev Fits : Known → Type 0
+  Fits k = fits_known vars count names k ≡ true
 
-  get_at_facts : (var : List ℕ) (s : Option Spot) → lane.opened ≡ true → ((spot : Spot) → s ≡ Some spot → SpotFacts lane fields spot) → Fits (get_at lane var s)
-  get_at_facts var None is spots left e = err_ok e
-  get_at_facts var (Some spot) is spots left e =
-      subst (FactsOf classes fields lane) (ok_same e) (record {
-        opened = refl;
-        grows = names_grow lane.names var;
-        fit = λ vars count names few some named. and_both _ _ (and_both _ _ is (below_true (number_in lane.names var) (length (with_name lane.names var)) vars (number_below lane.names var) few))
-            (spot_fits lane fields spot vars names (spots spot refl) (omega (arith, few, names_grow lane.names var)) named);
-      })
+  var_there : (k : Known) (var : ℕ) → Fits k → var_known k ≡ Some var → nat_lt var vars ≡ true
+  var_there (known.Var v) var fit e = subst (λ (n : ℕ). nat_lt n vars ≡ true) (some_same e) fit
+  var_there k var fit e = absurd cc
 
-  get_facts : (var : List ℕ) (place : Place) (o : Option ℕ) → Fits (get_in fields lane var place o)
-  get_facts var place None left e = err_ok e
-  get_facts var place (Some element) left e =
-      in_frame lane.opened _ refl (λ is. get_at_facts var (spot_found lane fields place element) is (found_facts lane fields place element)) left e
+  target_there : (k : Known) (to : Option ℕ) → Fits k → target_known k ≡ Some to → fits_target vars to ≡ true
+  target_there (known.Target t) to fit e = subst (λ (o : Option ℕ). fits_target vars o ≡ true) (some_same e) fit
+  target_there k to fit e = absurd cc
 
-  put_at_facts : (value : ℕ) (s : Option Spot) → lane.opened ≡ true → ((spot : Spot) → s ≡ Some spot → SpotFacts lane fields spot) → Fits (put_at lane value s)
-  put_at_facts value None is spots left e = err_ok e
-  put_at_facts value (Some spot) is spots left e =
-      subst (FactsOf classes fields lane) (ok_same e) (record {
-        opened = refl;
-        grows = omega arith;
-        fit = λ vars count names few some named. and_both _ _ is (spot_fits lane fields spot vars names (spots spot refl) few named);
-      })
+  class_there : (k : Known) (class : ClassId) → Fits k → class_known k ≡ Some class → nat_lt class.0 count ≡ true
+  class_there (known.Class c) class fit e = subst (λ (d : ClassId). nat_lt d.0 count ≡ true) (some_same e) fit
+  class_there k class fit e = absurd cc
 
-  put_facts : (place : Place) (value : Option ℕ) (o : Option ℕ) → Fits (put_in fields lane place o value)
-  put_facts place value None left e = err_ok e
-  put_facts place None (Some element) left e = err_ok e
-  put_facts place (Some value) (Some element) left e =
-      in_frame lane.opened _ refl (λ is. put_at_facts value (spot_found lane fields place element) is (found_facts lane fields place element)) left e
+  spot_there : (k : Known) (spot : Spot) → Fits k → spot_known k ≡ Some spot → fits_spot vars names spot ≡ true
+  spot_there (known.Spot s) spot fit e = subst (λ (t : Spot). fits_spot vars names t ≡ true) (some_same e) fit
+  spot_there k spot fit e = absurd cc
 
-  take_at_facts : (s : Option Spot) → lane.opened ≡ true → ((spot : Spot) → s ≡ Some spot → SpotFacts lane fields spot) → Fits (take_at lane s)
-  take_at_facts None is spots left e = err_ok e
-  take_at_facts (Some spot) is spots left e =
-      subst (FactsOf classes fields lane) (ok_same e) (record {
-        opened = refl;
-        grows = omega arith;
-        fit = λ vars count names few some named. and_both _ _ is (spot_fits lane fields spot vars names (spots spot refl) few named);
-      })
+  -- the command fits, and does to the frame what its word says
+  abbrev Made : Bool → Verb → LaneCmd → Type 0
+  Made opened verb command = (fits_lane vars count names opened command ≡ true) × (frame_by command ≡ frame_of verb)
 
-  take_facts : (place : Place) (o : Option ℕ) → Fits (take_in fields lane place o)
-  take_facts place None left e = err_ok e
-  take_facts place (Some element) left e =
-      in_frame lane.opened _ refl (λ is. take_at_facts (spot_found lane fields place element) is (found_facts lane fields place element)) left e
+  command_fits : (opened : Bool) (verb : Verb) (b f s : Known) (c : LaneCmd) → allows (frame_of verb) opened ≡ true → Fits b → Fits f → Fits s
+      → command_of verb b f s ≡ Some c → Made opened verb c
+  command_fits opened verb.Open b f s c may x y z e = subst (Made opened verb.Open) (some_same e) (may, refl)
+  command_fits opened verb.Close b f s c may x y z e = subst (Made opened verb.Close) (some_same e) (may, refl)
+  command_fits opened verb.New b f s c may x y z e =
+      both_made (Made opened verb.New) lane_cmd.New (var_known b) (class_known f) c (λ var class v k. (and_both _ _ (and_both _ _ may (var_there b var x v)) (class_there f class y k), refl)) e
+  command_fits opened verb.Root b f s c may x y z e =
+      both_made (Made opened verb.Root) lane_cmd.Root (var_known f) (switch_known s) c (λ var on v k. (and_both _ _ may (var_there f var y v), refl)) e
+  command_fits opened verb.Set b f s c may x y z e =
+      both_made (Made opened verb.Set) lane_cmd.Set (spot_known f) (target_known s) c (λ spot to v k. (and_both _ _ (and_both _ _ may (spot_there f spot y v)) (target_there s to z k), refl)) e
+  command_fits opened verb.Get b f s c may x y z e =
+      both_made (Made opened verb.Get) lane_cmd.Get (var_known b) (spot_known f) c (λ var spot v k. (and_both _ _ (and_both _ _ may (var_there b var x v)) (spot_there f spot y k), refl)) e
+  command_fits opened verb.Put b f s c may x y z e =
+      both_made (Made opened verb.Put) lane_cmd.Put (spot_known f) (value_known s) c (λ spot value v k. (and_both _ _ may (spot_there f spot y v), refl)) e
+  command_fits opened verb.Take b f s c may x y z e = mapped (Made opened verb.Take) lane_cmd.Take (spot_known f) c (λ spot v. (and_both _ _ may (spot_there f spot y v), refl)) e
+  command_fits opened verb.Print b f s c may x y z e = mapped (Made opened verb.Print) lane_cmd.Print (var_known f) c (λ var v. (and_both _ _ may (var_there f var y v), refl)) e
+
+-- ---- a step
+
+-- a choice of an answer that is there
+if_ok : {A E : Type 0} (b : Bool) (r : Result A E) (why : E) (x : A) → cond b r (Err why) ≡ Ok x → (b ≡ true) × (r ≡ Ok x)
+if_ok true r why x e = (refl, e)
+if_ok false r why x e = err_ok e
+
+-- what the frame and a variable that is bound leave of a lane
+frame_left : (f : Frame) (lane : LaneNames) → ((with_frame f lane).opened ≡ opened_by f lane.opened) × ((with_frame f lane).names ≡ lane.names)
+frame_left frame.Opens lane = (refl, refl)
+frame_left frame.Closes lane = (refl, refl)
+frame_left frame.Inside lane = (refl, refl)
+
+bind_left : (b : Binds) (lane : LaneNames) → ((with_bound b lane).opened ≡ lane.opened) × (count_of lane ≤ count_of (with_bound b lane))
+bind_left binds.Nothing lane = (refl, omega arith)
+bind_left (binds.Var var) lane = (refl, names_grow lane.names var)
+
+-- the variable that is bound is there
+bound_fits : (f : Frame) (b : Binds) (lane : LaneNames) (vars count names : ℕ) → count_of (with_bound b (with_frame f lane)) ≤ vars → fits_known vars count names (known_bound lane b) ≡ true
+bound_fits f binds.Nothing lane vars count names few = refl
+bound_fits f (binds.Var var) lane vars count names few =
+    let below : number_in (with_frame f lane).names var < length (with_name (with_frame f lane).names var) = number_below (with_frame f lane).names var in
+    below_true (number_in lane.names var) (length (with_name (with_frame f lane).names var)) vars
+    (subst (λ (ns : List (List ℕ)). number_in ns var < length (with_name (with_frame f lane).names var)) (frame_left f lane).1 below) few
+
+-- a command that is found
+found_command : (verb : Verb) (bound : Known) (o p : Option Known) (c : LaneCmd) → command_known verb bound o p ≡ Some c
+    → (first : Known) × (second : Known) × (o ≡ Some first) × (p ≡ Some second) × (command_of verb bound first second ≡ Some c)
+found_command verb bound None p c e = absurd cc
+found_command verb bound (Some first) None c e = absurd cc
+found_command verb bound (Some first) (Some second) c e = (first, second, refl, refl, e)
+
+found_facts : (classes : List Class) (fields : List (List ℕ)) (lane : LaneNames) (what : Does) (o : Option LaneCmd) (left : LaneNames × LaneCmd) → allows (frame_of what.verb) lane.opened ≡ true
+    → command_found classes fields lane what ≡ o → with_command (left_by what lane) o ≡ Ok left → FactsOf classes fields lane left
+found_facts classes fields lane what None left may is e = err_ok e
+found_facts classes fields lane what (Some c) left may is e =
+    let h = found_command what.verb (known_bound lane what.binds) (known_of classes fields lane what.first) (known_of classes fields lane what.second) c is in
+    let f = frame_left (frame_of what.verb) lane in
+    let b = bind_left what.binds (with_frame (frame_of what.verb) lane) in
+    let more : count_of lane ≤ count_of (left_by what lane) = subst (λ (ns : List (List ℕ)). length ns ≤ count_of (left_by what lane)) f.1 b.1 in
+    let fit = λ (vars count names : ℕ) (few : count_of (left_by what lane) ≤ vars) (some : length classes ≤ count) (named : length fields ≤ names).
+    command_fits vars count names lane.opened what.verb (known_bound lane what.binds) h.0 h.1 c may (bound_fits (frame_of what.verb) what.binds lane vars count names few)
+    (known_fits classes fields lane vars count names (omega (arith, more, few)) some named what.first h.0 h.2)
+    (known_fits classes fields lane vars count names (omega (arith, more, few)) some named what.second h.1 h.3) h.4 in
+    let same : frame_by c ≡ frame_of what.verb = (fit (count_of (left_by what lane)) (length classes) (length fields) (omega arith) (omega arith) (omega arith)).1 in
+    subst (FactsOf classes fields lane) (ok_same e) (record {
+      opened = b.0 ∙ f.0 ∙ ap (λ (g : Frame). opened_by g lane.opened) (sym same);
+      grows = more;
+      fit = λ vars count names few some named. (fit vars count names few some named).0;
+    })
 
 -- each step
 step_facts : (classes : List Class) (fields : List (List ℕ)) (lane : LaneNames) (what : Does) (left : LaneNames × LaneCmd)
     → lane_step classes fields lane what ≡ Ok left → FactsOf classes fields lane left
-step_facts classes fields lane does.Open left e = open_facts classes fields lane lane.opened refl left e
-step_facts classes fields lane does.Close left e = close_facts classes fields lane lane.opened refl left e
-step_facts classes fields lane (does.New var class) left e = new_facts classes fields lane var class lane.opened refl left e
-step_facts classes fields lane (does.Root var on) left e = root_facts classes fields lane var on lane.opened refl left e
-step_facts classes fields lane (does.Set place to) left e = set_facts classes fields lane place to (element_in place.element) left e
-step_facts classes fields lane (does.Get var place) left e = get_facts classes fields lane var place (element_in place.element) left e
-step_facts classes fields lane (does.Put place value) left e = put_facts classes fields lane place value (element_in place.element) left e
-step_facts classes fields lane (does.Take place) left e = take_facts classes fields lane place (element_in place.element) left e
-step_facts classes fields lane (does.Print var) left e = print_facts classes fields lane var lane.opened refl left e
+step_facts classes fields lane what left e =
+    let ranged = if_ok (is_in_range what.first && is_in_range what.second) _ cause.Number left e in
+    let framed = if_ok (allows (frame_of what.verb) lane.opened) _ cause.Frame left ranged.1 in
+    found_facts classes fields lane what (command_found classes fields lane what) left framed.0 refl framed.1
 
 -- ---- lines after one another
 

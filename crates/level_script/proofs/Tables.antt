@@ -1,11 +1,12 @@
 -- Tables by name, as lists.
-use Rattle.std.proofs.Common.{◌≡◌, ℕ, zero, suc, ◌+◌, ◌<◌, lt-ltb, arith, length, List, [], ◌∷◌, ◌++◌, refl, sym, ap, subst, ◌∙◌, Bool, true, false, not, ◌||◌, cond, map, slice_get, Some, None, String, string_bytes}
+use Rattle.std.proofs.Common.{◌≡◌, ℕ, zero, suc, ◌+◌, ◌<◌, ◌≤◌, lt-ltb, arith, length, List, [], ◌∷◌, ◌++◌, refl, sym, ap, subst, ◌∙◌, Bool, true, false, not, ◌||◌, cond, map, slice_get, Some, None, String, string_bytes}
 use Rattle.std.specs.Prelude.{nat_lt, position}
 use Rattle.std.specs.List.{position_or_len, prefix_len, list_any, AllByRecursion, IsDistinct}
 use Rattle.std.specs.Str.{bytes_eq}
 use Rattle.std.specs.String.{string_eq}
 use Rattle.std.specs.declared.alloc.Global.{Global}
-use Rattle.std.proofs.lemmas.Bool.{ltb-true}
+use Rattle.std.proofs.lemmas.Bool.{ltb-true, ltb-false}
+use Rattle.std.proofs.lemmas.List.Sums.{prefix_len-le-length}
 use Rattle.std.proofs.lemmas.Slice.Eq.{bytes_eq-Decides}
 use Rattle.std.proofs.lemmas.Option.{slice_get_within}
 use Rattle.std.proofs.lemmas.List.{length-map, map-append}
@@ -78,6 +79,21 @@ name_there names name i e =
     let found = place_some (nat_lt (position_or_len (bytes_eq name) names) (length names)) (position_or_len (bytes_eq name) names) i e in
     let passes = place_passes (bytes_eq name) names (ltb-true _ _ found.0) in
     (sym found.1, ap (λ b. cond b names (names ++ name ∷ [])) (sym passes))
+
+-- a name that is not there has the next number
+pub name_next : (names : List (List ℕ)) (name : List ℕ) → number_of_name names name ≡ None → length names ≡ number_in names name
+unfolding number_of_name number_in
+name_next names name e = go (nat_lt place (length names)) refl e
+  where
+    place : ℕ
+    place = position_or_len (bytes_eq name) names
+
+    go : (b : Bool) → nat_lt place (length names) ≡ b → cond b (Some place) None ≡ None → length names ≡ place
+    go true is e = absurd cc
+    go false is e =
+        let most : place ≤ length names = prefix_len-le-length (λ x. not (bytes_eq name x)) names in
+        let least : length names ≤ place = ltb-false _ _ is in
+        omega arith
 
 -- ---- a name at a place
 

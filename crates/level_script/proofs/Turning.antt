@@ -10,7 +10,7 @@ use Rattle.level_script.specs.declared.cause.Cause.{Cause}
 use Rattle.level_script.specs.declared.context.Context.{Context}
 use Rattle.level_script.specs.declared.lanes.LaneNames.{LaneNames}
 use Rattle.level_script.specs.declared.said.Does.{Does}
-use Rattle.level_script.specs.declared.script.LaneCmd.{LaneCmd}
+use Rattle.level_script.specs.declared.lane_cmd.LaneCmd.{LaneCmd}
 use Rattle.level_script.specs.declared.script.Cmd.TheVariants as cmd
 
 -- what a line of a lane leaves

@@ -2,16 +2,23 @@
 use Rattle.std.specs.Prelude.{ℕ, Bool, true, false, List, [], ◌∷◌, codes, Option, Some, None, option_map, Result, Ok, Err, if◌then◌else◌}
 use Rattle.std.specs.Str.{bytes_eq, is_utf8}
 use Rattle.level_script.specs.Lines.{line_words, is_none}
-use Rattle.level_script.specs.Forms.{identifier_of, variable_of, is_digits, number_of, is_comment, spot_of}
+use Rattle.level_script.specs.Forms.{identifier_of, variable_of, is_digits, number_of, is_comment}
+use Rattle.level_script.specs.LaneCommands.{verb_of, tail_of}
+use Rattle.level_script.specs.Operands.{operand_of}
 use Rattle.level_script.specs.declared.cause.Cause.{Cause}
 use Rattle.level_script.specs.declared.cause.Cause.TheVariants as cause
 use Rattle.level_script.specs.declared.said.Said.{Said}
 use Rattle.level_script.specs.declared.said.Said.TheVariants as said
 use Rattle.level_script.specs.declared.said.Does.{Does}
-use Rattle.level_script.specs.declared.said.Does.TheVariants as does
 use Rattle.level_script.specs.declared.said.FieldOf.{FieldOf}
 use Rattle.level_script.specs.declared.said.FieldOf.TheVariants as of
-use Rattle.level_script.specs.declared.said.Place.{Place}
+use Rattle.level_script.specs.declared.lane_cmd.Verb.{Verb}
+use Rattle.level_script.specs.declared.operand.Binds.TheVariants as binds
+use Rattle.level_script.specs.declared.operand.Form.{Form}
+use Rattle.level_script.specs.declared.operand.Operand.{Operand}
+use Rattle.level_script.specs.declared.operand.Operand.TheVariants as operand
+use Rattle.level_script.specs.declared.operand.Tail.{Tail}
+use Rattle.level_script.specs.declared.operand.Tail.TheVariants as tail
 
 -- ---- words
 
@@ -106,110 +113,60 @@ collector_line (word ∷ words) = if bytes_eq word (codes "full") then alone sai
 
 -- ---- lanes
 
--- the names of a variable and a class, if both are identifiers
-abbrev pub new_names : Option (List ℕ) → Option (List ℕ) → Result Does Cause
-new_names None class = Err cause.Words
-new_names (Some var) None = Err cause.Words
-new_names (Some var) (Some class) = Ok (does.New var class)
-
--- `new V CLASS`
-abbrev pub new_command : Option (List ℕ × List ℕ) → Result Does Cause
-new_command None = Err cause.Words
-new_command (Some (var, class)) = new_names (variable_of var) (identifier_of class)
-
--- true for `on`, false for `off`
-abbrev pub switch_of : List ℕ → Option Bool
-switch_of word =
-    if bytes_eq word (codes "on") then Some true
-    else if bytes_eq word (codes "off") then Some false
-    else None
-
--- the name of a variable, if it is one, and what `on` or `off` says
-abbrev pub root_names : Option (List ℕ) → Option Bool → Result Does Cause
-root_names None on = Err cause.Words
-root_names (Some var) None = Err cause.Words
-root_names (Some var) (Some on) = Ok (does.Root var on)
-
--- `root V on` and `root V off`
-abbrev pub root_command : Option (List ℕ × List ℕ) → Result Does Cause
-root_command None = Err cause.Words
-root_command (Some (var, on)) = root_names (variable_of var) (switch_of on)
-
--- the variable whose object is stored, or `none`
-abbrev pub target_of : List ℕ → Option (Option (List ℕ))
-target_of word = if bytes_eq word (codes "none") then Some None else option_map Some (identifier_of word)
-
--- a spot and what is stored there
-abbrev pub set_parts : Option Place → Option (Option (List ℕ)) → Result Does Cause
-set_parts None to = Err cause.Words
-set_parts (Some place) None = Err cause.Words
-set_parts (Some place) (Some to) = Ok (does.Set place to)
-
--- `set SPOT V` and `set SPOT none`
-abbrev pub set_command : Option (List ℕ × List ℕ) → Result Does Cause
-set_command None = Err cause.Words
-set_command (Some (spot, to)) = set_parts (spot_of spot) (target_of to)
-
--- a variable, and the spot that is read
-abbrev pub get_parts : Option (List ℕ) → Option Place → Result Does Cause
-get_parts None place = Err cause.Words
-get_parts (Some var) None = Err cause.Words
-get_parts (Some var) (Some place) = Ok (does.Get var place)
-
--- `get V SPOT`
-abbrev pub get_command : Option (List ℕ × List ℕ) → Result Does Cause
-get_command None = Err cause.Words
-get_command (Some (var, spot)) = get_parts (variable_of var) (spot_of spot)
-
--- a spot, and the digits of what is written there
-abbrev pub put_parts : Option Place → List ℕ → Result Does Cause
-put_parts None value = Err cause.Words
-put_parts (Some place) value = if is_digits value then Ok (does.Put place (number_of value)) else Err cause.Words
-
--- `put SPOT N`
-abbrev pub put_command : Option (List ℕ × List ℕ) → Result Does Cause
-put_command None = Err cause.Words
-put_command (Some (spot, value)) = put_parts (spot_of spot) value
-
 -- the one word, where there is no other
 abbrev pub only_of : List (List ℕ) → Option (List ℕ)
 only_of [] = None
 only_of (word ∷ []) = Some word
 only_of (word ∷ next ∷ words) = None
 
--- the spot that is read
-abbrev pub take_parts : Option Place → Result Does Cause
-take_parts None = Err cause.Words
-take_parts (Some place) = Ok (does.Take place)
+-- a command that names nothing
+abbrev pub does_alone : Verb → Does
+does_alone verb = record { verb = verb; binds = binds.Nothing; first = operand.Nothing; second = operand.Nothing }
 
--- `take SPOT`
-abbrev pub take_command : Option (List ℕ) → Result Does Cause
-take_command None = Err cause.Words
-take_command (Some spot) = take_parts (spot_of spot)
+-- a command, and what the word behind it says, if it has the form
+abbrev pub does_one : Verb → Form → Option (List ℕ) → Option Does
+does_one verb form None = None
+does_one verb form (Some word) = option_map (λ first. record { verb = verb; binds = binds.Nothing; first = first; second = operand.Nothing }) (operand_of form word)
 
--- the variable whose object is told
-abbrev pub print_parts : Option (List ℕ) → Result Does Cause
-print_parts None = Err cause.Words
-print_parts (Some var) = Ok (does.Print var)
+-- the same of two words
+abbrev pub does_parts : Verb → Option Operand → Option Operand → Option Does
+does_parts verb None second = None
+does_parts verb (Some first) None = None
+does_parts verb (Some first) (Some second) = Some (record { verb = verb; binds = binds.Nothing; first = first; second = second })
 
--- `print V`
-abbrev pub print_command : Option (List ℕ) → Result Does Cause
-print_command None = Err cause.Words
-print_command (Some var) = print_parts (variable_of var)
+abbrev pub does_two : Verb → Form → Form → Option (List ℕ × List ℕ) → Option Does
+does_two verb one two None = None
+does_two verb one two (Some (first, second)) = does_parts verb (operand_of one first) (operand_of two second)
+
+-- the same of a variable that is bound, and a word
+abbrev pub does_bound : Verb → Option (List ℕ) → Option Operand → Option Does
+does_bound verb None first = None
+does_bound verb (Some var) None = None
+does_bound verb (Some var) (Some first) = Some (record { verb = verb; binds = binds.Var var; first = first; second = operand.Nothing })
+
+abbrev pub does_binds : Verb → Form → Option (List ℕ × List ℕ) → Option Does
+does_binds verb form None = None
+does_binds verb form (Some (var, first)) = does_bound verb (variable_of var) (operand_of form first)
+
+-- what a lane does by a command, if the words behind it are those that follow it
+abbrev pub does_of : Verb → Tail → List (List ℕ) → Option Does
+does_of verb tail.Alone words = if is_none words then Some (does_alone verb) else None
+does_of verb (tail.One form) words = does_one verb form (only_of words)
+does_of verb (tail.Two one two) words = does_two verb one two (pair_of words)
+does_of verb (tail.Binds form) words = does_binds verb form (pair_of words)
+
+-- other words are a fault
+abbrev pub or_words : Option Does → Result Does Cause
+or_words None = Err cause.Words
+or_words (Some what) = Ok what
+
+abbrev pub by_verb : Option Verb → List (List ℕ) → Result Does Cause
+by_verb None words = Err cause.UnknownCommand
+by_verb (Some verb) words = or_words (does_of verb (tail_of verb) words)
 
 -- what stands after a lane
 abbrev pub lane_command : List ℕ → List (List ℕ) → Result Does Cause
-lane_command word words =
-    if bytes_eq word (codes "open") then alone does.Open words
-    else if bytes_eq word (codes "close") then alone does.Close words
-    else if bytes_eq word (codes "new") then new_command (pair_of words)
-    else if bytes_eq word (codes "root") then root_command (pair_of words)
-    else if bytes_eq word (codes "set") then set_command (pair_of words)
-    else if bytes_eq word (codes "get") then get_command (pair_of words)
-    else if bytes_eq word (codes "put") then put_command (pair_of words)
-    else if bytes_eq word (codes "take") then take_command (only_of words)
-    else if bytes_eq word (codes "print") then print_command (only_of words)
-    else Err cause.UnknownCommand
+lane_command word words = by_verb (verb_of word) words
 
 -- what a lane does
 abbrev pub of_lane : Option ℕ → Result Does Cause → Result Said Cause

@@ -25,7 +25,7 @@ use Rattle.level_script.specs.declared.said.Said.TheVariants as said
 use Rattle.level_script.specs.declared.script.Cmd.{Cmd}
 use Rattle.level_script.specs.declared.script.Cmd.TheVariants as cmd
 use Rattle.level_script.specs.declared.script.Script.{Script}
-use Rattle.level_script.specs.declared.script.LaneCmd.{LaneCmd}
+use Rattle.level_script.specs.declared.lane_cmd.LaneCmd.{LaneCmd}
 use Rattle.level_script.specs.declared.script.GcCmd.TheVariants as gc_cmd
 
 -- limits in their ranges

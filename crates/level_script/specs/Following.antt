@@ -6,15 +6,18 @@ use Rattle.level_script.specs.Commands.{said_by_line}
 use Rattle.level_script.specs.Context.{start}
 use Rattle.level_script.specs.Forms.{is_comment}
 use Rattle.level_script.specs.Lanes.{bound_var}
+use Rattle.level_script.specs.LaneCommands.{frame_of}
 use Rattle.level_script.specs.Lines.{input_lines, line_words}
+use Rattle.level_script.specs.Operands.{closes, is_some}
 use Rattle.level_script.specs.Reading.{line_turn, read_on, read_from, script_of_lines, outcome_of, fault_of}
 use Rattle.level_script.specs.declared.cause.Cause.{Cause}
 use Rattle.level_script.specs.declared.cause.ScriptErr.{ScriptErr}
 use Rattle.level_script.specs.declared.context.Context.{Context}
 use Rattle.level_script.specs.declared.lanes.LaneNames.{LaneNames}
 use Rattle.level_script.specs.declared.limits.Limits.{Limits}
+use Rattle.level_script.specs.declared.operand.Binds.{Binds}
+use Rattle.level_script.specs.declared.operand.Binds.TheVariants as binds
 use Rattle.level_script.specs.declared.said.Does.{Does}
-use Rattle.level_script.specs.declared.said.Does.TheVariants as does
 use Rattle.level_script.specs.declared.said.Said.{Said}
 use Rattle.level_script.specs.declared.said.Said.TheVariants as said
 
@@ -51,15 +54,17 @@ QuietLines = (bytes : List ℕ) (limits : Limits) → length bytes ≤ 16777216
 
 -- ---- where a variable is bound
 
--- the lane does something that binds this name: it makes an object or reads a reference
-abbrev pub binds_name : List ℕ → Does → Bool
-binds_name name (does.New var class) = bytes_eq name var
-binds_name name (does.Get var place) = bytes_eq name var
-binds_name name _ = false
+-- the lane does something that binds this name
+abbrev pub is_bound_by : List ℕ → Binds → Bool
+is_bound_by name binds.Nothing = false
+is_bound_by name (binds.Var var) = bytes_eq name var
 
+abbrev pub binds_name : List ℕ → Does → Bool
+binds_name name what = is_bound_by name what.binds
+
+-- it closes its frame
 abbrev pub is_close : Does → Bool
-is_close does.Close = true
-is_close _ = false
+is_close what = closes (frame_of what.verb)
 
 -- a line by which this lane does such a thing
 abbrev pub says_of : ℕ → (Does → Bool) → Result Said Cause → Bool
@@ -77,10 +82,6 @@ pub record IsBoundBy (lane : ℕ) (name : List ℕ) (lines : List (List ℕ)) : 
   pub are : lines ≡ front ++ line ∷ behind
   pub binds : IsTrue (line_of lane (binds_name name) line)
   pub kept : IsTrue (list_all (λ l. not (line_of lane is_close l)) behind)
-
-abbrev pub is_some : Option ℕ → Bool
-is_some None = false
-is_some (Some n) = true
 
 -- After lines that are read a variable is bound exactly where one of them binds it, and none behind that closes the lane's frame.
 abbrev pub BoundByLines : Type 0

@@ -4,7 +4,7 @@ use Rattle.std.specs.List.{list_all, position_or_len}
 use Rattle.std.specs.Str.{bytes_eq}
 use Rattle.std.specs.Char.{is_ascii_digit, is_ascii_alphabetic}
 use Rattle.std.specs.Int.Digits.{number_from_digits}
-use Rattle.level_script.specs.declared.said.Place.{Place}
+use Rattle.level_script.specs.declared.operand.Place.{Place}
 
 -- an ASCII letter or `_`
 abbrev pub begins_identifier : ℕ → Bool

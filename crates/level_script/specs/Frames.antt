@@ -1,44 +1,31 @@
 -- What the player of a script may rely on.
-use Rattle.std.specs.Prelude.{◌≡◌, ◌<◌, ℕ, nat_lt, Bool, true, false, not, ◌&&◌, List, [], ◌∷◌, length, Option, Some, None, replicate, slice_index, slice_index_or, slice_set}
+use Rattle.std.specs.Prelude.{◌≡◌, ◌<◌, ℕ, nat_lt, Bool, true, false, ◌&&◌, List, [], ◌∷◌, length, replicate, slice_index, slice_index_or, slice_set}
 use Rattle.std.specs.List.{AllByRecursion, list_all}
 use Rattle.world_model.specs.declared.kind.Ready.TheVariants as ready
 use Rattle.class_schema.specs.Class.{Class}
 use Rattle.level_script.specs.Forms.{is_identifier, continues_identifier}
+use Rattle.level_script.specs.LaneCommands.{frame_by, named_by}
+use Rattle.level_script.specs.Operands.{allows, opened_by, fits_known}
 use Rattle.level_script.specs.declared.limits.Limits.{Limits}
 use Rattle.level_script.specs.declared.script.Cmd.{Cmd}
 use Rattle.level_script.specs.declared.script.Cmd.TheVariants as cmd
-use Rattle.level_script.specs.declared.script.LaneCmd.{LaneCmd}
-use Rattle.level_script.specs.declared.script.LaneCmd.TheVariants as lane_cmd
+use Rattle.level_script.specs.declared.lane_cmd.LaneCmd.{LaneCmd}
+use Rattle.level_script.specs.declared.operand.Known.{Known}
 use Rattle.level_script.specs.declared.script.Line.{Line}
 use Rattle.level_script.specs.declared.script.Script.{Script}
-use Rattle.level_script.specs.declared.script.Spot.{Spot}
 
 -- whether a lane's frame is open after a command of the lane
 abbrev pub opened_after : LaneCmd → Bool → Bool
-opened_after lane_cmd.Open was = true
-opened_after lane_cmd.Close was = false
-opened_after _ was = was
+opened_after command was = opened_by (frame_by command) was
 
--- an element of one of so many variables, in a field with one of so many names
-abbrev pub fits_spot : ℕ → ℕ → Spot → Bool
-fits_spot vars fields spot = nat_lt spot.var vars && nat_lt spot.field fields
+-- the frame is as it has to be, and all of these are there, where there are so many variables, classes and names of fields
+abbrev pub fit_all : ℕ → ℕ → ℕ → Bool → List Known → Bool
+fit_all vars classes fields so [] = so
+fit_all vars classes fields so (k ∷ ks) = fit_all vars classes fields (so && fits_known vars classes fields k) ks
 
--- one of so many variables, or none
-abbrev pub fits_target : ℕ → Option ℕ → Bool
-fits_target vars None = true
-fits_target vars (Some var) = nat_lt var vars
-
--- a lane with so many variables may have this command, where there are so many classes and names of fields: its frame is as the command needs it, and its variables, its class and its field are there
+-- a lane with so many variables may have this command: its frame is as the command needs it, and all that the command names is there
 abbrev pub fits_lane : ℕ → ℕ → ℕ → Bool → LaneCmd → Bool
-fits_lane vars classes fields opened lane_cmd.Open = not opened
-fits_lane vars classes fields opened lane_cmd.Close = opened
-fits_lane vars classes fields opened (lane_cmd.New var class) = opened && nat_lt var vars && nat_lt class.0 classes
-fits_lane vars classes fields opened (lane_cmd.Root var on) = opened && nat_lt var vars
-fits_lane vars classes fields opened (lane_cmd.Set spot to) = opened && fits_spot vars fields spot && fits_target vars to
-fits_lane vars classes fields opened (lane_cmd.Get var spot) = opened && nat_lt var vars && fits_spot vars fields spot
-fits_lane vars classes fields opened (lane_cmd.Put spot value) = opened && fits_spot vars fields spot
-fits_lane vars classes fields opened (lane_cmd.Take spot) = opened && fits_spot vars fields spot
-fits_lane vars classes fields opened (lane_cmd.Print var) = opened && nat_lt var vars
+fits_lane vars classes fields opened command = fit_all vars classes fields (allows (frame_by command) opened) (named_by command)
 
 -- the command is one of a lane that there is, and fits it, while the lanes' frames are so; or it is the collector's
 abbrev pub fits : List ℕ → ℕ → ℕ → List Bool → Cmd → Bool

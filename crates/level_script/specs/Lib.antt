@@ -2,8 +2,10 @@ pub mod Commands
 pub mod Context
 pub mod Forms
 pub mod Frames
+pub mod LaneCommands
 pub mod Lanes
 pub mod Lines
 pub mod Names
+pub mod Operands
 pub mod Reading
 pub mod Following

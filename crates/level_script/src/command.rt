@@ -1,12 +1,15 @@
 //! The words of a line, one level of the grammar a function: lines of the header and of the collector, and parts of lines of lanes.
 ghost use Rattle.std.specs.Prelude.{◌≡◌, MatchOption, Some, None};
 ghost use Rattle.level_script.specs.Lines.{line_words};
-ghost use Rattle.level_script.specs.Commands.{pair_of, only_of, class_line, count_of, field_of, two_names, field_line, collector_line, switch_of, target_of};
+ghost use Rattle.level_script.specs.Commands.{pair_of, only_of, class_line, count_of, field_of, two_names, field_line, collector_line, does_one, does_two, does_binds, does_of};
+ghost use Rattle.level_script.specs.LaneCommands.{tail_of};
 
 use crate::cause::Cause;
+use crate::lane_cmd::{Verb, tail_of};
 use crate::lines::{first_word, is_over};
-use crate::said::{FieldOf, Said};
-use crate::word::{Identifier, Number, is_digits, read_identifier, read_number};
+use crate::operand::{Binds, Form, Operand, Tail, read_operand};
+use crate::said::{Does, FieldOf, Said};
+use crate::word::{Identifier, Number, is_digits, read_identifier, read_number, read_variable};
 
 /// The two words that are left, where there are two.
 pub fn pair<'a>(rest: &'a [u8]) -> Option<(&'a [u8], &'a [u8])>
@@ -129,26 +132,69 @@ pub fn collector_line<'a>(rest: &'a [u8]) -> Result<Said<'a>, Cause>
     }
 }
 
-/// True for `on`, false for `off`.
-pub fn read_switch(word: &[u8]) -> Option<bool>
-    ensures { result ≡ switch_of word.now }
+// A command with one word behind it.
+fn one<'a>(verb: Verb, form: Form, rest: &'a [u8]) -> Option<Does<'a>>
+    ensures { result ≡ does_one verb form (only_of (line_words rest.now)) }
 {
-    if word == b"on".as_slice() {
-        Some(true)
-    } else if word == b"off".as_slice() {
-        Some(false)
-    } else {
-        None
-    }
+    let word = only(rest)?;
+    let first = read_operand(form, word)?;
+    Some(Does {
+        verb,
+        binds: Binds::Nothing,
+        first,
+        second: Operand::Nothing,
+    })
 }
 
-/// The variable whose object is stored, or none.
-pub fn read_target<'a>(word: &'a [u8]) -> Option<Option<Identifier<'a>>>
-    ensures { result ≡ target_of word.now }
+// A command with two words behind it.
+fn two<'a>(verb: Verb, one: Form, two: Form, rest: &'a [u8]) -> Option<Does<'a>>
+    ensures { result ≡ does_two verb one two (pair_of (line_words rest.now)) }
 {
-    if word == b"none".as_slice() {
-        Some(None)
-    } else {
-        Some(Some(read_identifier(word)?))
+    let (first, second) = pair(rest)?;
+    let first = read_operand(one, first)?;
+    let second = read_operand(two, second)?;
+    Some(Does {
+        verb,
+        binds: Binds::Nothing,
+        first,
+        second,
+    })
+}
+
+// A command with a variable that it binds and another word behind it.
+fn binding<'a>(verb: Verb, form: Form, rest: &'a [u8]) -> Option<Does<'a>>
+    ensures { result ≡ does_binds verb form (pair_of (line_words rest.now)) }
+{
+    let (var, first) = pair(rest)?;
+    let var = read_variable(var)?;
+    let first = read_operand(form, first)?;
+    Some(Does {
+        verb,
+        binds: Binds::Var(var),
+        first,
+        second: Operand::Nothing,
+    })
+}
+
+/// What a lane does by a command, where the words behind it are those that follow it.
+pub fn read_does<'a>(verb: Verb, rest: &'a [u8]) -> Option<Does<'a>>
+    ensures { result ≡ does_of verb (tail_of verb) (line_words rest.now) }
+{
+    match tail_of(verb) {
+        Tail::Alone => {
+            if is_over(rest) {
+                Some(Does {
+                    verb,
+                    binds: Binds::Nothing,
+                    first: Operand::Nothing,
+                    second: Operand::Nothing,
+                })
+            } else {
+                None
+            }
+        }
+        Tail::One(form) => one(verb, form, rest),
+        Tail::Two(first, second) => two(verb, first, second, rest),
+        Tail::Binds(form) => binding(verb, form, rest),
     }
 }

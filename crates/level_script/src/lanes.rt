@@ -1,25 +1,17 @@
 //! The lanes of a script, as far as it has been read.
-ghost use Rattle.std.specs.Prelude.{◌≡◌, ◌<◌, ◌≤◌, length, map, replicate, IfOk, Some, slice_get};
-ghost use Rattle.level_script.specs.Lanes.{closed_lane, open_step, close_step, new_step, root_step, bound_var, element_in, spot_found, set_step, get_step, put_step, take_step, print_step, lane_step, lane_index, bound_target, Steps, StepsAt, count_of};
+ghost use Rattle.std.specs.Prelude.{◌≡◌, ◌<◌, ◌≤◌, length, map, replicate, IfOk, OnOk, Some, slice_get};
+ghost use Rattle.level_script.specs.Lanes.{closed_lane, bound_var, spot_found, bound_target, known_of, known_bound, command_found, with_frame, with_bound, lane_step, lane_index, Steps, StepsAt, count_of};
 
 use crate::cause::{Cause, Stop};
+use crate::lane_cmd::{LaneCmd, command_of, frame_of};
 use crate::names::{NameTable, NumberSet};
-use crate::said::{Does, Place};
-use crate::script::{Counts, LaneCmd, Spot};
+use crate::operand::{Binds, Frame, Known, Operand, Place, element_in};
+use crate::said::Does;
+use crate::script::{Counts, Spot};
 use crate::word::{Identifier, Number};
 use class_schema::ClassTable;
 use std::alloc::{AllocError, Global};
 use std::marker::Model;
-
-// The number of an element, below 2^32.
-fn element_in(number: &Number) -> Option<u32>
-    ensures { result ≡ element_in number.now }
-{
-    match number.get() {
-        Some(value) if value < 4294967296 => Some(value as u32),
-        _ => None,
-    }
-}
 
 /// A lane.
 #[derive(Drop)]
@@ -43,50 +35,6 @@ impl LaneNames {
         }
     }
 
-    fn open(&mut self) -> Result<LaneCmd, Stop>
-        ensures { Steps (open_step self.old) self.new result }
-    {
-        if self.opened {
-            return Err(Stop::Faulty(Cause::Frame));
-        }
-        self.opened = true;
-        Ok(LaneCmd::Open)
-    }
-
-    fn close(&mut self) -> Result<LaneCmd, Stop>
-        ensures { Steps (close_step self.old) self.new result }
-    {
-        if !self.opened {
-            return Err(Stop::Faulty(Cause::Frame));
-        }
-        self.opened = false;
-        self.bound.clear();
-        Ok(LaneCmd::Close)
-    }
-
-    fn make(
-        &mut self,
-        classes: &ClassTable,
-        var: &Identifier<'_>,
-        class: &Identifier<'_>,
-    ) -> Result<LaneCmd, Stop>
-        ensures { Steps (new_step classes.now.classes self.old var.now class.now) self.new result }
-    {
-        if !self.opened {
-            return Err(Stop::Faulty(Cause::Frame));
-        }
-        let Some(class) = classes.find_class(class.as_str()) else {
-            return Err(Stop::Faulty(Cause::UnknownName));
-        };
-        let Ok(var) = self.names.add(var.as_str()) else {
-            return Err(Stop::Memory);
-        };
-        let Ok(()) = self.bound.add(var) else {
-            return Err(Stop::Memory);
-        };
-        Ok(LaneCmd::New { var, class })
-    }
-
     // The number of a variable that is bound in the open frame.
     fn bound_var(&self, name: &str) -> Option<u32>
         ensures { result ≡ bound_var self.now name.now }
@@ -97,18 +45,6 @@ impl LaneNames {
         } else {
             None
         }
-    }
-
-    fn root(&mut self, var: &Identifier<'_>, on: bool) -> Result<LaneCmd, Stop>
-        ensures { Steps (root_step self.old var.now on) self.new result }
-    {
-        if !self.opened {
-            return Err(Stop::Faulty(Cause::Frame));
-        }
-        let Some(var) = self.bound_var(var.as_str()) else {
-            return Err(Stop::Faulty(Cause::UnknownName));
-        };
-        Ok(LaneCmd::Root { var, on })
     }
 
     // The variable whose object is stored, or none.
@@ -122,9 +58,10 @@ impl LaneNames {
     }
 
     // An element of a variable that is bound, in a field whose name is known.
-    fn spot(&self, fields: &NameTable, place: &Place<'_>, element: u32) -> Option<Spot>
-        ensures { result ≡ spot_found self.now fields.now place.now element }
+    fn spot(&self, fields: &NameTable, place: &Place<'_>) -> Option<Spot>
+        ensures { result ≡ spot_found self.now fields.now place.now }
     {
+        let element = element_in(&place.element)?;
         let var = self.bound_var(place.var.as_str())?;
         let field = fields.find(place.field.as_str())?;
         Some(Spot {
@@ -134,103 +71,64 @@ impl LaneNames {
         })
     }
 
-    fn set(
-        &mut self,
-        fields: &NameTable,
-        place: &Place<'_>,
-        to: &Option<Identifier<'_>>,
-    ) -> Result<LaneCmd, Stop>
-        ensures { Steps (set_step fields.now self.old place.now to.now) self.new result }
+    // What a word stands for, if its names are known.
+    fn known(&self, classes: &ClassTable, fields: &NameTable, word: &Operand<'_>) -> Option<Known>
+        ensures { result ≡ known_of classes.now.classes fields.now self.now word.now }
     {
-        let Some(element) = element_in(&place.element) else {
-            return Err(Stop::Faulty(Cause::Number));
-        };
-        if !self.opened {
-            return Err(Stop::Faulty(Cause::Frame));
-        }
-        let Some(spot) = self.spot(fields, place, element) else {
-            return Err(Stop::Faulty(Cause::UnknownName));
-        };
-        let Some(to) = self.target(to) else {
-            return Err(Stop::Faulty(Cause::UnknownName));
-        };
-        Ok(LaneCmd::Set { spot, to })
-    }
-
-    fn get(
-        &mut self,
-        fields: &NameTable,
-        var: &Identifier<'_>,
-        place: &Place<'_>,
-    ) -> Result<LaneCmd, Stop>
-        ensures { Steps (get_step fields.now self.old var.now place.now) self.new result }
-    {
-        let Some(element) = element_in(&place.element) else {
-            return Err(Stop::Faulty(Cause::Number));
-        };
-        if !self.opened {
-            return Err(Stop::Faulty(Cause::Frame));
-        }
-        let Some(spot) = self.spot(fields, place, element) else {
-            return Err(Stop::Faulty(Cause::UnknownName));
-        };
-        let Ok(var) = self.names.add(var.as_str()) else {
-            return Err(Stop::Memory);
-        };
-        let Ok(()) = self.bound.add(var) else {
-            return Err(Stop::Memory);
-        };
-        Ok(LaneCmd::Get { var, spot })
-    }
-
-    fn put(
-        &mut self,
-        fields: &NameTable,
-        place: &Place<'_>,
-        value: &Number,
-    ) -> Result<LaneCmd, Stop>
-        ensures { Steps (put_step fields.now self.old place.now value.now) self.new result }
-    {
-        let Some(element) = element_in(&place.element) else {
-            return Err(Stop::Faulty(Cause::Number));
-        };
-        let Some(value) = value.get() else {
-            return Err(Stop::Faulty(Cause::Number));
-        };
-        if !self.opened {
-            return Err(Stop::Faulty(Cause::Frame));
-        }
-        match self.spot(fields, place, element) {
-            Some(spot) => Ok(LaneCmd::Put { spot, value }),
-            None => Err(Stop::Faulty(Cause::UnknownName)),
+        match word {
+            Operand::Nothing => Some(Known::Nothing),
+            Operand::Var(name) => Some(Known::Var(self.bound_var(name.as_str())?)),
+            Operand::Target(to) => Some(Known::Target(self.target(to)?)),
+            Operand::Class(name) => Some(Known::Class(classes.find_class(name.as_str())?)),
+            Operand::Spot(place) => Some(Known::Spot(self.spot(fields, place)?)),
+            Operand::Switch(on) => Some(Known::Switch(*on)),
+            Operand::Value(number) => Some(Known::Value(number.get()?)),
         }
     }
 
-    fn take(&mut self, fields: &NameTable, place: &Place<'_>) -> Result<LaneCmd, Stop>
-        ensures { Steps (take_step fields.now self.old place.now) self.new result }
+    // The number of the variable that is bound.
+    fn known_bound(&self, binds: &Binds<'_>) -> Known
+        ensures { result ≡ known_bound self.now binds.now }
     {
-        let Some(element) = element_in(&place.element) else {
-            return Err(Stop::Faulty(Cause::Number));
-        };
-        if !self.opened {
-            return Err(Stop::Faulty(Cause::Frame));
-        }
-        match self.spot(fields, place, element) {
-            Some(spot) => Ok(LaneCmd::Take { spot }),
-            None => Err(Stop::Faulty(Cause::UnknownName)),
+        match binds {
+            Binds::Nothing => Known::Nothing,
+            Binds::Var(name) => Known::Var(self.names.number_for(name.as_str())),
         }
     }
 
-    fn print(&mut self, var: &Identifier<'_>) -> Result<LaneCmd, Stop>
-        ensures { Steps (print_step self.old var.now) self.new result }
+    // The command that a line of the lane is, if all names are known.
+    fn command(&self, classes: &ClassTable, fields: &NameTable, does: &Does<'_>) -> Option<LaneCmd>
+        ensures { result ≡ command_found classes.now.classes fields.now self.now does.now }
     {
-        if !self.opened {
-            return Err(Stop::Faulty(Cause::Frame));
+        let first = self.known(classes, fields, &does.first)?;
+        let second = self.known(classes, fields, &does.second)?;
+        command_of(does.verb, self.known_bound(&does.binds), first, second)
+    }
+
+    // Opens or closes the frame; a close ends the variables.
+    fn enter(&mut self, frame: Frame)
+        ensures { self.new ≡ with_frame frame self.old }
+    {
+        match frame {
+            Frame::Opens => self.opened = true,
+            Frame::Closes => {
+                self.opened = false;
+                self.bound.clear();
+            }
+            Frame::Inside => {}
         }
-        let Some(var) = self.bound_var(var.as_str()) else {
-            return Err(Stop::Faulty(Cause::UnknownName));
+    }
+
+    // Binds a variable.
+    fn bind(&mut self, binds: &Binds<'_>) -> Result<(), AllocError>
+        ensures { OnOk result (self.new ≡ with_bound binds.now self.old) }
+    {
+        let Binds::Var(name) = binds else {
+            return Ok(());
         };
-        Ok(LaneCmd::Print { var })
+        let var = self.names.add(name.as_str())?;
+        self.bound.add(var)?;
+        Ok(())
     }
 
     // Does what a line of the lane says.
@@ -242,16 +140,20 @@ impl LaneNames {
     ) -> Result<LaneCmd, Stop>
         ensures { Steps (lane_step classes.now.classes fields.now self.old does.now) self.new result }
     {
-        match does {
-            Does::Open => self.open(),
-            Does::Close => self.close(),
-            Does::New { var, class } => self.make(classes, var, class),
-            Does::Root { var, on } => self.root(var, *on),
-            Does::Set { place, to } => self.set(fields, place, to),
-            Does::Get { var, place } => self.get(fields, var, place),
-            Does::Put { place, value } => self.put(fields, place, value),
-            Does::Take { place } => self.take(fields, place),
-            Does::Print { var } => self.print(var),
+        if !(does.first.is_in_range() && does.second.is_in_range()) {
+            return Err(Stop::Faulty(Cause::Number));
+        }
+        let frame = frame_of(does.verb);
+        if !frame.allows(self.opened) {
+            return Err(Stop::Faulty(Cause::Frame));
+        }
+        let Some(cmd) = self.command(classes, fields, does) else {
+            return Err(Stop::Faulty(Cause::UnknownName));
+        };
+        self.enter(frame);
+        match self.bind(&does.binds) {
+            Ok(()) => Ok(cmd),
+            Err(_) => Err(Stop::Memory),
         }
     }
 

@@ -19,11 +19,13 @@
 mod cause;
 mod command;
 mod context;
+mod lane_cmd;
 mod lanes;
 pub mod laws;
 mod limits;
 mod lines;
 mod names;
+mod operand;
 mod reader;
 mod said;
 mod script;
@@ -33,6 +35,7 @@ mod word;
 
 pub use cause::{Cause, ParseErr, ScriptErr};
 pub use class_schema::{AddErr, ClassTable, Field, FieldKind, SchemaErr};
+pub use lane_cmd::LaneCmd;
 pub use limits::Limits;
 pub use reader::parse;
-pub use script::{Cmd, Counts, FieldNames, GcCmd, LaneCmd, Line, Lines, Script, Spot};
+pub use script::{Cmd, Counts, FieldNames, GcCmd, Line, Lines, Script, Spot};

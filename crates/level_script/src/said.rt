@@ -1,4 +1,6 @@
 //! What the words of a line say, before names are looked up.
+use crate::lane_cmd::Verb;
+use crate::operand::{Binds, Operand};
 use crate::word::{Identifier, Number};
 
 /// What a line says.
@@ -36,43 +38,12 @@ pub enum FieldOf<'a> {
     Int,
 }
 
-/// An element of a field of an object.
-#[derive(Drop)]
-pub struct Place<'a> {
-    pub var: Identifier<'a>,
-    pub field: Identifier<'a>,
-    pub element: Number,
-}
-
 /// What a lane does.
 #[derive(Drop)]
-pub enum Does<'a> {
-    Open,
-    Close,
-    New {
-        var: Identifier<'a>,
-        class: Identifier<'a>,
-    },
-    Root {
-        var: Identifier<'a>,
-        on: bool,
-    },
-    Set {
-        place: Place<'a>,
-        to: Option<Identifier<'a>>,
-    },
-    Get {
-        var: Identifier<'a>,
-        place: Place<'a>,
-    },
-    Put {
-        place: Place<'a>,
-        value: Number,
-    },
-    Take {
-        place: Place<'a>,
-    },
-    Print {
-        var: Identifier<'a>,
-    },
+pub struct Does<'a> {
+    pub verb: Verb,
+    pub binds: Binds<'a>,
+    /// What the first and the second word say, but for the variable that is bound.
+    pub first: Operand<'a>,
+    pub second: Operand<'a>,
 }

@@ -1,11 +1,11 @@
 //! What an input says.
 ghost use Rattle.std.specs.Prelude.{◌≡◌, ◌∷◌, [], ◌++◌, OnOk, MatchOption, slice_get, Some, None};
 
+use crate::lane_cmd::LaneCmd;
 use crate::names::NameTable;
 use class_schema::ClassTable;
 use std::alloc::{AllocError, Global};
 use std::marker::Model;
-use world_model::ClassId;
 
 /// An element of a field of the object of a variable.
 #[derive(Clone, Copy, Debug, PartialEq, Eq)]
@@ -16,30 +16,6 @@ pub struct Spot {
     pub field: u32,
     /// The number of the element, from 0.
     pub element: u32,
-}
-
-/// What a lane does. Variables are numbers of the lane's object variables, from 0 in the order in
-/// which the lane's lines mention them first.
-#[derive(Clone, Copy, Debug, PartialEq, Eq)]
-pub enum LaneCmd {
-    /// The lane opens its frame.
-    Open,
-    /// The lane closes its frame, and its variables end.
-    Close,
-    /// The lane makes an object of a class, for which the variable then stands.
-    New { var: u32, class: ClassId },
-    /// The object of the variable becomes a root, or is one no longer.
-    Root { var: u32, on: bool },
-    /// A reference to the object of a variable, or to none, is stored in an element.
-    Set { spot: Spot, to: Option<u32> },
-    /// The variable stands for what an element refers to.
-    Get { var: u32, spot: Spot },
-    /// A number is stored in an element.
-    Put { spot: Spot, value: u64 },
-    /// The number in an element is told.
-    Take { spot: Spot },
-    /// The object of the variable is told, with its class.
-    Print { var: u32 },
 }
 
 /// What the collector does.

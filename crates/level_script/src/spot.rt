@@ -2,7 +2,7 @@
 ghost use Rattle.std.specs.Prelude.{◌≡◌};
 ghost use Rattle.level_script.specs.Forms.{bracketed, element_of, spot_of};
 
-use crate::said::Place;
+use crate::operand::Place;
 use crate::word::{Number, front_identifier, front_variable, is_digits, read_number, split_front};
 
 // The number in front of a last `]`.

@@ -34,8 +34,8 @@ pub use Rattle.world_play.specs.declared.reply.Reply.TheVariants as reply
 pub use Rattle.level_script.specs.declared.script.Line.{Line}
 pub use Rattle.level_script.specs.declared.script.Cmd.{Cmd}
 pub use Rattle.level_script.specs.declared.script.Cmd.TheVariants as cmd
-pub use Rattle.level_script.specs.declared.script.LaneCmd.{LaneCmd}
-pub use Rattle.level_script.specs.declared.script.LaneCmd.TheVariants as lane_cmd
+pub use Rattle.level_script.specs.declared.lane_cmd.LaneCmd.{LaneCmd}
+pub use Rattle.level_script.specs.declared.lane_cmd.LaneCmd.TheVariants as lane_cmd
 pub use Rattle.level_script.specs.declared.script.GcCmd.{GcCmd}
 pub use Rattle.level_script.specs.declared.script.GcCmd.TheVariants as gc_cmd
 pub use Rattle.level_script.specs.declared.script.Spot.{Spot}

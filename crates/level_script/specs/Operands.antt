@@ -1,0 +1,114 @@
+-- The words behind the word of a lane's command: their forms, what they say, and what that stands for.
+use Rattle.std.specs.Prelude.{◌<◌, ℕ, nat_lt, Bool, true, false, not, ◌&&◌, List, [], ◌∷◌, codes, Option, Some, None, option_map, if◌then◌else◌}
+use Rattle.std.specs.Str.{bytes_eq}
+use Rattle.world_model.specs.declared.kind.ClassId.{ClassId}
+use Rattle.level_script.specs.Forms.{identifier_of, variable_of, is_digits, number_of, spot_of}
+use Rattle.level_script.specs.declared.operand.Frame.{Frame}
+use Rattle.level_script.specs.declared.operand.Frame.TheVariants as frame
+use Rattle.level_script.specs.declared.operand.Form.{Form}
+use Rattle.level_script.specs.declared.operand.Form.TheVariants as form
+use Rattle.level_script.specs.declared.operand.Operand.{Operand}
+use Rattle.level_script.specs.declared.operand.Operand.TheVariants as operand
+use Rattle.level_script.specs.declared.operand.Known.{Known}
+use Rattle.level_script.specs.declared.operand.Known.TheVariants as known
+use Rattle.level_script.specs.declared.script.Spot.{Spot}
+
+-- ---- frames
+
+-- a command that does this to the frame may stand where the frame is so
+abbrev pub allows : Frame → Bool → Bool
+allows frame.Opens opened = not opened
+allows frame.Closes opened = opened
+allows frame.Inside opened = opened
+
+-- whether the frame is open after it
+abbrev pub opened_by : Frame → Bool → Bool
+opened_by frame.Opens was = true
+opened_by frame.Closes was = false
+opened_by frame.Inside was = was
+
+abbrev pub closes : Frame → Bool
+closes frame.Closes = true
+closes _ = false
+
+-- ---- what a word says
+
+-- true for `on`, false for `off`
+abbrev pub switch_of : List ℕ → Option Bool
+switch_of word =
+    if bytes_eq word (codes "on") then Some true
+    else if bytes_eq word (codes "off") then Some false
+    else None
+
+-- the variable whose object is stored, or `none`
+abbrev pub target_of : List ℕ → Option (Option (List ℕ))
+target_of word = if bytes_eq word (codes "none") then Some None else option_map Some (identifier_of word)
+
+-- what a word of this form says, if it has the form
+abbrev pub operand_of : Form → List ℕ → Option Operand
+operand_of form.Var word = option_map operand.Var (variable_of word)
+operand_of form.Target word = option_map operand.Target (target_of word)
+operand_of form.Class word = option_map operand.Class (identifier_of word)
+operand_of form.Spot word = option_map operand.Spot (spot_of word)
+operand_of form.Switch word = option_map operand.Switch (switch_of word)
+operand_of form.Value word = if is_digits word then Some (operand.Value (number_of word)) else None
+
+-- ---- numbers
+
+-- the number of an element, below 2^32
+abbrev pub element_in : Option ℕ → Option ℕ
+element_in (Some number) = if nat_lt number 4294967296 then Some number else None
+element_in None = None
+
+abbrev pub is_some : {A : Type 0} → Option A → Bool
+is_some None = false
+is_some (Some a) = true
+
+-- the number that a word says is in its range
+abbrev pub is_in_range : Operand → Bool
+is_in_range (operand.Spot place) = is_some (element_in place.element)
+is_in_range (operand.Value number) = is_some number
+is_in_range _ = true
+
+-- ---- what a word stands for
+
+abbrev pub var_known : Known → Option ℕ
+var_known (known.Var var) = Some var
+var_known _ = None
+
+abbrev pub target_known : Known → Option (Option ℕ)
+target_known (known.Target to) = Some to
+target_known _ = None
+
+abbrev pub class_known : Known → Option ClassId
+class_known (known.Class class) = Some class
+class_known _ = None
+
+abbrev pub spot_known : Known → Option Spot
+spot_known (known.Spot spot) = Some spot
+spot_known _ = None
+
+abbrev pub switch_known : Known → Option Bool
+switch_known (known.Switch on) = Some on
+switch_known _ = None
+
+abbrev pub value_known : Known → Option ℕ
+value_known (known.Value value) = Some value
+value_known _ = None
+
+-- an element of one of so many variables, in a field with one of so many names
+abbrev pub fits_spot : ℕ → ℕ → Spot → Bool
+fits_spot vars fields spot = nat_lt spot.var vars && nat_lt spot.field fields
+
+-- one of so many variables, or none
+abbrev pub fits_target : ℕ → Option ℕ → Bool
+fits_target vars None = true
+fits_target vars (Some var) = nat_lt var vars
+
+-- it is there, where there are so many variables, classes and names of fields
+abbrev pub fits_known : ℕ → ℕ → ℕ → Known → Bool
+fits_known vars classes fields (known.Var var) = nat_lt var vars
+fits_known vars classes fields (known.Target to) = fits_target vars to
+fits_known vars classes fields (known.Class class) = nat_lt class.0 classes
+fits_known vars classes fields (known.Spot spot) = fits_spot vars fields spot
+fits_known vars classes fields _ = true
