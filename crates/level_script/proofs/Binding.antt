@@ -14,8 +14,8 @@ use Rattle.class_schema.specs.Class.{Class, Schema}
 use Rattle.class_schema.specs.Table.{find_class, added, field_added}
 use Rattle.class_schema.specs.declared.field.FieldKind.{FieldKind}
 use Rattle.class_schema.specs.declared.refusal.SchemaErr.{SchemaErr}
-use Rattle.level_script.specs.Commands.{pair_of, class_names, class_words, class_line, count_of, field_of, two_names, field_said, field_elements, field_words, field_line, said_by_words, said_by_line}
-use Rattle.level_script.specs.Context.{start, with_classes, with_named, elements_in, kind_found, field_known, field_counted, with_lane, lane_at, lane_of, if_said, turn}
+use Rattle.level_script.specs.Commands.{pair_of, class_names, class_told, class_line, count_of, field_of, two_names, field_said, field_elements, field_told, field_line, said_by_words, said_by_line}
+use Rattle.level_script.specs.Context.{start, with_classes, with_named, elements_in, kind_found, field_known, field_counted, with_lane, lane_at, lane_of, if_said, after_line}
 use Rattle.level_script.specs.Following.{is_bound_by, binds_name, is_close, says_of, line_of, IsBoundBy, BoundByLines}
 use Rattle.level_script.specs.Forms.{identifier_of, is_comment}
 use Rattle.level_script.specs.LaneCommands.{frame_of}
@@ -23,7 +23,7 @@ use Rattle.level_script.specs.Lanes.{closed_lane, bound_var, if_bound, with_boun
 use Rattle.level_script.specs.Operands.{allows, closes, is_some, is_in_range}
 use Rattle.level_script.specs.Lines.{line_words}
 use Rattle.level_script.specs.Names.{number_of_name, number_in, with_name, has_number, with_number}
-use Rattle.level_script.specs.Reading.{line_turn, read_from}
+use Rattle.level_script.specs.Reading.{after_numbered, read_from}
 use Rattle.level_script.specs.declared.cause.Cause.{Cause}
 use Rattle.level_script.specs.declared.cause.Cause.TheVariants as cause
 use Rattle.level_script.specs.declared.context.Context.{Context}
@@ -282,13 +282,13 @@ class_names_quiet index such None p = refl
 class_names_quiet index such (Some name) None = refl
 class_names_quiet index such (Some name) (Some parent) = refl
 
-class_words_quiet : (index : ℕ) (such : Does → Bool) (o : Option (List ℕ × List ℕ)) → says_of index such (class_words o) ≡ false
-class_words_quiet index such None = refl
-class_words_quiet index such (Some (name, parent)) = class_names_quiet index such (identifier_of name) (identifier_of parent)
+class_told_quiet : (index : ℕ) (such : Does → Bool) (o : Option (List ℕ × List ℕ)) → says_of index such (class_told o) ≡ false
+class_told_quiet index such None = refl
+class_told_quiet index such (Some (name, parent)) = class_names_quiet index such (identifier_of name) (identifier_of parent)
 
 class_quiet : (index : ℕ) (such : Does → Bool) (in_header : Bool) (words : List (List ℕ)) → says_of index such (class_line in_header words) ≡ false
 class_quiet index such false words = refl
-class_quiet index such true words = class_words_quiet index such (pair_of words)
+class_quiet index such true words = class_told_quiet index such (pair_of words)
 
 field_said_quiet : (index : ℕ) (such : Does → Bool) (class name : List ℕ) (what : FieldOf) (r : Result (Option (Option ℕ)) Cause) → says_of index such (field_said class name what r) ≡ false
 field_said_quiet index such class name what (Ok count) = refl
@@ -298,13 +298,13 @@ field_elements_quiet : (index : ℕ) (such : Does → Bool) (class name : List �
 field_elements_quiet index such class name None = refl
 field_elements_quiet index such class name (Some (what, words)) = field_said_quiet index such class name what (count_of words)
 
-field_words_quiet : (index : ℕ) (such : Does → Bool) (o : Option (List ℕ × List ℕ × List (List ℕ))) → says_of index such (field_words o) ≡ false
-field_words_quiet index such None = refl
-field_words_quiet index such (Some (class, name, words)) = field_elements_quiet index such class name (field_of words)
+field_told_quiet : (index : ℕ) (such : Does → Bool) (o : Option (List ℕ × List ℕ × List (List ℕ))) → says_of index such (field_told o) ≡ false
+field_told_quiet index such None = refl
+field_told_quiet index such (Some (class, name, words)) = field_elements_quiet index such class name (field_of words)
 
 field_quiet : (index : ℕ) (such : Does → Bool) (in_header : Bool) (words : List (List ℕ)) → says_of index such (field_line in_header words) ≡ false
 field_quiet index such false words = refl
-field_quiet index such true words = field_words_quiet index such (two_names words)
+field_quiet index such true words = field_told_quiet index such (two_names words)
 
 -- a choice of two pairs of answers that say the same
 alike : (index : ℕ) (such : Does → Bool) (b : Bool) (r s t u : Result Said Cause) → says_of index such r ≡ says_of index such t → says_of index such s ≡ says_of index such u
@@ -410,11 +410,11 @@ said_leaves index name number c next (Ok (said.Lane lane what)) e = index_leaves
 abbrev line_bound : ℕ → List ℕ → List ℕ → Bool → Bool
 line_bound index name line was = (was && not (line_of index is_close line)) || line_of index (binds_name name) line
 
-line_leaves : (index : ℕ) (name : List ℕ) (number : ℕ) (c next : Context) (line : List ℕ) → line_turn number c line ≡ Ok next
+line_leaves : (index : ℕ) (name : List ℕ) (number : ℕ) (c next : Context) (line : List ℕ) → after_numbered number c line ≡ Ok next
     → (left : LaneNames) → slice_get next.lanes index ≡ Some left → (lane : LaneNames) × (slice_get c.lanes index ≡ Some lane) × (is_bound left name ≡ line_bound index name line (is_bound lane name))
-unfolding line_turn
+unfolding after_numbered
 line_leaves index name number c next line e left there =
-    let h = said_leaves index name number c next (said_by_line c.in_header line) (short_enough (nat_lt 200000 number) (turn number c line) next e) left there in
+    let h = said_leaves index name number c next (said_by_line c.in_header line) (short_enough (nat_lt 200000 number) (after_line number c line) next e) left there in
     (h.0, h.1, h.2 ∙ (λ i. (is_bound h.0 name && not (line_alike index is_close c.in_header line i)) || line_alike index (binds_name name) c.in_header line i))
 
 -- ---- lines
@@ -430,7 +430,7 @@ lines_leave : (index : ℕ) (name : List ℕ) (lines : List (List ℕ)) (number 
 unfolding read_from lines_bound
 lines_leave index name [] number c last e left there = (left, ap (λ (d : Context). slice_get d.lanes index) (ok_same e) ∙ there, refl)
 lines_leave index name (line ∷ lines) number c last e left there =
-    let h = on_ok number (line_turn number c line) (λ next. read_from (number + 1) next lines) last e in
+    let h = on_ok number (after_numbered number c line) (λ next. read_from (number + 1) next lines) last e in
     let later = lines_leave index name lines (number + 1) h.0 last h.2 left there in
     let now = line_leaves index name number c h.0 line h.1 later.0 later.1 in
     (now.0, now.1, later.2 ∙ ap (λ (b : Bool). lines_bound index name b lines) now.2)

@@ -5,7 +5,7 @@ use Rattle.std.specs.Result.{result_err}
 use Rattle.std.proofs.lemmas.Bool.{ltb-true, ltb-false, lt-ltb, le-ltb}
 use Rattle.level_script.specs.Context.{start}
 use Rattle.level_script.specs.Lines.{input_lines}
-use Rattle.level_script.specs.Reading.{line_turn, read_from, read_on, fault_at, outcome_of, fault_of, script_of_lines, IsFirstFault, HasFault, FirstFault}
+use Rattle.level_script.specs.Reading.{after_numbered, read_from, read_on, fault_at, outcome_of, fault_of, script_of_lines, IsFirstFault, HasFault, FirstFault}
 use Rattle.level_script.specs.declared.cause.Cause.{Cause}
 use Rattle.level_script.specs.declared.cause.Cause.TheVariants as cause
 use Rattle.level_script.specs.declared.cause.ScriptErr.{ScriptErr}
@@ -19,14 +19,14 @@ record FailsAt (number : ℕ) (c : Context) (lines : List (List ℕ)) (fault : S
   there : place < length lines
   before : Context
   read : read_from number c (take place lines) ≡ Ok before
-  faulty : line_turn fault.line before (slice_index_or lines place []) ≡ Err fault.cause
+  faulty : after_numbered fault.line before (slice_index_or lines place []) ≡ Err fault.cause
 
 -- equal faults are equal
 err_same : {A E : Type 0} {a b : E} → ◌≡◌ {A = Result A E} (Err a) (Err b) → a ≡ b
 err_same {A} {E} {a} {b} e = ap (λ (r : Result A E). elim r [ Ok x ↦ a | Err y ↦ y ]) e
 
 -- a line that is read comes before the fault of those after it
-fails_later : (number : ℕ) (c next : Context) (line : List ℕ) (lines : List (List ℕ)) (fault : ScriptErr) → line_turn number c line ≡ Ok next
+fails_later : (number : ℕ) (c next : Context) (line : List ℕ) (lines : List (List ℕ)) (fault : ScriptErr) → after_numbered number c line ≡ Ok next
     → FailsAt (number + 1) next lines fault → FailsAt number c (line ∷ lines) fault
 unfolding read_from
 fails_later number c next line lines fault turned h = record {
@@ -39,7 +39,7 @@ fails_later number c next line lines fault turned h = record {
 }
 
 -- the first line has it
-fails_now : (number : ℕ) (c : Context) (line : List ℕ) (lines : List (List ℕ)) (fault : ScriptErr) (why : Cause) → line_turn number c line ≡ Err why
+fails_now : (number : ℕ) (c : Context) (line : List ℕ) (lines : List (List ℕ)) (fault : ScriptErr) (why : Cause) → after_numbered number c line ≡ Err why
     → fault_at number why ≡ fault → FailsAt number c (line ∷ lines) fault
 unfolding read_from
 fails_now number c line lines fault why turned is = subst (FailsAt number c (line ∷ lines)) is (record {
@@ -55,9 +55,9 @@ fails_now number c line lines fault why turned is = subst (FailsAt number c (lin
 fails : (lines : List (List ℕ)) (number : ℕ) (c : Context) (fault : ScriptErr) → read_from number c lines ≡ Err fault → FailsAt number c lines fault
 unfolding read_from
 fails [] number c fault e = absurd cc
-fails (line ∷ lines) number c fault e = go (line_turn number c line) refl e (λ next. fails lines (number + 1) next fault)
+fails (line ∷ lines) number c fault e = go (after_numbered number c line) refl e (λ next. fails lines (number + 1) next fault)
   where
-    go : (r : Result Context Cause) → line_turn number c line ≡ r → read_on number r (λ n. read_from (number + 1) n lines) ≡ Err fault
+    go : (r : Result Context Cause) → after_numbered number c line ≡ r → read_on number r (λ n. read_from (number + 1) n lines) ≡ Err fault
         → ((next : Context) → read_from (number + 1) next lines ≡ Err fault → FailsAt (number + 1) next lines fault)
         → FailsAt number c (line ∷ lines) fault
     go (Ok next) turned e later = fails_later number c next line lines fault turned (later next e)
@@ -69,21 +69,21 @@ ok_same {A} {E} {a} {b} e = ap (λ (r : Result A E). elim r [ Ok x ↦ x | Err y
 
 -- lines of which one has it have it
 has : (lines : List (List ℕ)) (place number at : ℕ) (c before : Context) (why : Cause) → at ≡ number + place → place < length lines
-    → read_from number c (take place lines) ≡ Ok before → line_turn at before (slice_index_or lines place []) ≡ Err why
+    → read_from number c (take place lines) ≡ Ok before → after_numbered at before (slice_index_or lines place []) ≡ Err why
     → read_from number c lines ≡ Err (fault_at at why)
 unfolding read_from
 has [] place number at c before why is there read faulty = absurd (omega arith)
 has (line ∷ lines) zero number at c before why is there read faulty =
     let here : number ≡ at = omega arith in
     let same : c ≡ before = ok_same read in
-    let turned : line_turn number c line ≡ Err why = (λ t. line_turn (here t) (same t) line) ∙ faulty in
+    let turned : after_numbered number c line ≡ Err why = (λ t. after_numbered (here t) (same t) line) ∙ faulty in
     ap (λ r. read_on number r (λ n. read_from (number + 1) n lines)) turned ∙ ap (λ n. Err (fault_at n why)) here
 has (line ∷ lines) (suc place) number at c before why is there read faulty =
-    go (line_turn number c line) refl read (λ next read. has lines place (number + 1) at next before why (omega arith) (omega arith) read faulty)
+    go (after_numbered number c line) refl read (λ next read. has lines place (number + 1) at next before why (omega arith) (omega arith) read faulty)
   where
-    go : (r : Result Context Cause) → line_turn number c line ≡ r → read_on number r (λ n. read_from (number + 1) n (take place lines)) ≡ Ok before
+    go : (r : Result Context Cause) → after_numbered number c line ≡ r → read_on number r (λ n. read_from (number + 1) n (take place lines)) ≡ Ok before
         → ((next : Context) → read_from (number + 1) next (take place lines) ≡ Ok before → read_from (number + 1) next lines ≡ Err (fault_at at why))
-        → read_on number (line_turn number c line) (λ n. read_from (number + 1) n lines) ≡ Err (fault_at at why)
+        → read_on number (after_numbered number c line) (λ n. read_from (number + 1) n lines) ≡ Err (fault_at at why)
     go (Ok next) turned read later = ap (λ r. read_on number r (λ n. read_from (number + 1) n lines)) turned ∙ later next read
     go (Err other) turned read later = absurd cc
 
@@ -100,7 +100,7 @@ first limits lines fault h =
       there = omega arith;
       before = h.before;
       read = ap (λ k. read_from 1 (start limits) (take k lines)) p ∙ h.read;
-      faulty = ap (λ k. line_turn fault.line h.before (slice_index_or lines k [])) p ∙ h.faulty;
+      faulty = ap (λ k. after_numbered fault.line h.before (slice_index_or lines k [])) p ∙ h.faulty;
     }
 
 -- a fault that an input has

@@ -5,9 +5,9 @@ use Rattle.std.specs.Str.{is_utf8}
 use Rattle.std.proofs.lemmas.Bool.{le-ltb, leb-true}
 use Rattle.std.proofs.lemmas.List.{length-take, length-take-le}
 use Rattle.level_script.specs.Commands.{said_by_words}
-use Rattle.level_script.specs.Context.{start, if_said, turn}
+use Rattle.level_script.specs.Context.{start, if_said, after_line}
 use Rattle.level_script.specs.Lines.{input_lines, line_words}
-use Rattle.level_script.specs.Reading.{line_turn, read_from, read_on, fault_at, script_of_lines, outcome_of, IsFirstFault, HasFault}
+use Rattle.level_script.specs.Reading.{after_numbered, read_from, read_on, fault_at, script_of_lines, outcome_of, IsFirstFault, HasFault}
 use Rattle.level_script.specs.Following.{FaultByLines, are_quiet, is_quiet, numbered, read_numbered, QuietLines}
 use Rattle.level_script.specs.declared.cause.Cause.{Cause}
 use Rattle.level_script.specs.declared.cause.Cause.TheVariants as cause
@@ -45,7 +45,7 @@ same_fault limits xs ys fault same h =
       there = omega arith;
       before = h.before;
       read = ap (read_from 1 (start limits)) (sym (fewer (fault.line - 1) ys) ∙ ap (take (fault.line - 1)) (sym all) ∙ fewer (fault.line - 1) xs) ∙ h.read;
-      faulty = ap (line_turn fault.line h.before) (sym (last_of (fault.line - 1) ys []) ∙ ap (λ ls. slice_index_or ls (fault.line - 1) []) (sym all) ∙ last_of (fault.line - 1) xs []) ∙ h.faulty;
+      faulty = ap (after_numbered fault.line h.before) (sym (last_of (fault.line - 1) ys []) ∙ ap (λ ls. slice_index_or ls (fault.line - 1) []) (sym all) ∙ last_of (fault.line - 1) xs []) ∙ h.faulty;
     }
 
 pub fault_by_lines_holds : FaultByLines
@@ -62,13 +62,13 @@ quiet_words : (number : ℕ) (c : Context) (in_header : Bool) (words : List (Lis
 quiet_words number c in_header [] h = refl
 quiet_words number c in_header (word ∷ words) h = rw h refl
 
-quiet_turn : (number : ℕ) (c : Context) (line : List ℕ) → is_quiet (number, line) ≡ true → line_turn number c line ≡ Ok c
-unfolding line_turn
-quiet_turn number c line h =
+quiet_line : (number : ℕ) (c : Context) (line : List ℕ) → is_quiet (number, line) ≡ true → after_numbered number c line ≡ Ok c
+unfolding after_numbered
+quiet_line number c line h =
     let parts = both (nat_le number 200000 && is_utf8 line) (are_quiet (line_words line)) h in
     let fronts = both (nat_le number 200000) (is_utf8 line) parts.0 in
     let within : number ≤ 200000 = leb-true number 200000 fronts.0 in
-    ap (λ (b : Bool). cond b (Err cause.TooLong) (turn number c line)) (le-ltb 200000 number within)
+    ap (λ (b : Bool). cond b (Err cause.TooLong) (after_line number c line)) (le-ltb 200000 number within)
     ∙ ap (λ (b : Bool). if_said number c (cond b (said_by_words c.in_header (line_words line)) (Err cause.Utf8))) fronts.1 ∙ quiet_words number c c.in_header (line_words line) parts.1
 
 quiet_read : (lines : List (List ℕ)) (number : ℕ) (c : Context) → read_from number c lines ≡ read_numbered c (filter (λ l. not (is_quiet l)) (numbered number lines))
@@ -80,9 +80,9 @@ quiet_read (line ∷ lines) number c = go (is_quiet (number, line)) refl (λ nex
     loud = filter (λ l. not (is_quiet l)) (numbered (number + 1) lines)
 
     go : (b : Bool) → is_quiet (number, line) ≡ b → ((next : Context) → read_from (number + 1) next lines ≡ read_numbered next loud)
-        → read_on number (line_turn number c line) (λ next. read_from (number + 1) next lines) ≡ read_numbered c (cond (not b) ((number, line) ∷ loud) loud)
-    go true is rest = ap (λ (r : Result Context Cause). read_on number r (λ next. read_from (number + 1) next lines)) (quiet_turn number c line is) ∙ rest c
-    go false is rest = λ i. read_on number (line_turn number c line) (λ next. rest next i)
+        → read_on number (after_numbered number c line) (λ next. read_from (number + 1) next lines) ≡ read_numbered c (cond (not b) ((number, line) ∷ loud) loud)
+    go true is rest = ap (λ (r : Result Context Cause). read_on number r (λ next. read_from (number + 1) next lines)) (quiet_line number c line is) ∙ rest c
+    go false is rest = λ i. read_on number (after_numbered number c line) (λ next. rest next i)
 
 pub quiet_lines_hold : QuietLines
 unfolding outcome_of

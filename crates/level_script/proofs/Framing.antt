@@ -16,7 +16,7 @@ use Rattle.class_schema.specs.Table.{find_class, added, admitted, added_below, c
 use Rattle.class_schema.specs.declared.field.FieldKind.{FieldKind}
 use Rattle.class_schema.specs.declared.refusal.SchemaErr.{SchemaErr}
 use Rattle.level_script.specs.Commands.{said_by_line}
-use Rattle.level_script.specs.Context.{start, with_line, with_classes, with_named, elements_in, kind_found, field_known, field_counted, with_lane, lane_at, lane_of, act_turn, if_said, turn, script_from}
+use Rattle.level_script.specs.Context.{start, with_line, with_classes, with_named, elements_in, kind_found, field_known, field_counted, with_lane, lane_at, lane_of, after_said, if_said, after_line, script_from}
 use Rattle.level_script.specs.Frames.{opened_after, fits_lane, fits, frames_after, are_framed, IsAtOnce, IsNamed, IsPlayable}
 use Rattle.level_script.specs.Forms.{is_identifier}
 use Rattle.level_script.proofs.Naming.{SaysName, SaysNameIfOk, identifier_bytes, line_says}
@@ -25,7 +25,7 @@ use Rattle.level_script.specs.Lanes.{closed_lane, count_of, bound_var, if_bound,
 use Rattle.level_script.specs.Operands.{allows, opened_by, element_in, is_in_range, var_known, target_known, class_known, spot_known, switch_known, value_known, fits_spot, fits_target, fits_known}
 use Rattle.level_script.specs.Lines.{input_lines}
 use Rattle.level_script.specs.Names.{number_of_name, number_in, with_name, has_number}
-use Rattle.level_script.specs.Reading.{line_turn, read_from, read_on, fault_at, outcome_of, script_of, script_of_lines}
+use Rattle.level_script.specs.Reading.{after_numbered, read_from, read_on, fault_at, outcome_of, script_of, script_of_lines}
 use Rattle.level_script.specs.declared.cause.Cause.{Cause}
 use Rattle.level_script.specs.declared.cause.Cause.TheVariants as cause
 use Rattle.level_script.specs.declared.cause.ScriptErr.{ScriptErr}
@@ -552,7 +552,7 @@ good_counted limits c next number class name what (Some count) g e = good_field 
 -- ---- whole inputs
 
 -- what a line says keeps it
-good_act : (limits : Limits) (c next : Context) (number : ℕ) (what : Said) → Good limits c → SaysName what → act_turn number c what ≡ Ok next → Good limits next
+good_act : (limits : Limits) (c next : Context) (number : ℕ) (what : Said) → Good limits c → SaysName what → after_said number c what ≡ Ok next → Good limits next
 good_act limits c next number said.Nothing g says e = subst (Good limits) (ok_same e) g
 good_act limits c next number (said.Class name parent) g says e =
     good_classes limits c next (added c.classes number name parent) g
@@ -574,11 +574,11 @@ short_enough true r next e = err_ok e
 short_enough false r next e = e
 
 -- each line keeps it
-good_line : (limits : Limits) (c next : Context) (number : ℕ) (line : List ℕ) → Good limits c → line_turn number c line ≡ Ok next → Good limits next
-unfolding line_turn
+good_line : (limits : Limits) (c next : Context) (number : ℕ) (line : List ℕ) → Good limits c → after_numbered number c line ≡ Ok next → Good limits next
+unfolding after_numbered
 good_line limits c next number line g e =
     good_said limits c next number (said_by_line c.in_header line) g (line_says c.in_header line)
-    (short_enough (nat_lt 200000 number) (turn number c line) next e)
+    (short_enough (nat_lt 200000 number) (after_line number c line) next e)
 
 -- what is read on is read after a line
 pub on_ok : (number : ℕ) (r : Result Context Cause) (more : Context → Result Context ScriptErr) (last : Context) → read_on number r more ≡ Ok last
@@ -591,7 +591,7 @@ good_lines : (limits : Limits) (lines : List (List ℕ)) (number : ℕ) (c last 
 unfolding read_from
 good_lines limits [] number c last g e = subst (Good limits) (ok_same e) g
 good_lines limits (line ∷ lines) number c last g e =
-    let h = on_ok number (line_turn number c line) (λ next. read_from (number + 1) next lines) last e in
+    let h = on_ok number (after_numbered number c line) (λ next. read_from (number + 1) next lines) last e in
     good_lines limits lines (number + 1) h.0 last (good_line limits c h.0 number line g h.1) h.2
 
 -- so many lanes

@@ -1,7 +1,7 @@
 pub mod Cutting
 pub mod Forming
 pub mod Tables
-pub mod Turning
+pub mod Taking
 pub mod Naming
 pub mod Framing
 pub mod First

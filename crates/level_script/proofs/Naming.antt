@@ -4,7 +4,7 @@ use Rattle.std.specs.Prelude.{nat_lt}
 use Rattle.std.specs.List.{list_all}
 use Rattle.std.specs.Str.{bytes_eq, is_utf8}
 use Rattle.std.specs.Char.{is_ascii_alphabetic, is_ascii_digit}
-use Rattle.level_script.specs.Commands.{pair_of, alone, class_names, class_words, class_line, count_of, field_of, two_names, field_said, field_elements, field_words, field_line, collector_line, lane_command, of_lane, lane_line, said_by_words, said_by_line}
+use Rattle.level_script.specs.Commands.{pair_of, alone, class_names, class_told, class_line, count_of, field_of, two_names, field_said, field_elements, field_told, field_line, collector_line, lane_command, of_lane, lane_line, said_by_words, said_by_line}
 use Rattle.level_script.specs.Forms.{begins_identifier, continues_identifier, is_identifier, identifier_of, is_digits, number_of, is_comment}
 use Rattle.level_script.specs.Lines.{line_words, is_none}
 use Rattle.level_script.specs.declared.cause.Cause.{Cause}
@@ -69,13 +69,13 @@ names_say None p is = tt
 names_say (Some name) None is = tt
 names_say (Some name) (Some parent) is = is name refl
 
-class_words_say : (o : Option (List ℕ × List ℕ)) → SaysNameIfOk (class_words o)
-class_words_say None = tt
-class_words_say (Some (word, parent)) = names_say (identifier_of word) (identifier_of parent) (λ name e. identifier_is (is_identifier word) word name refl e)
+class_told_says : (o : Option (List ℕ × List ℕ)) → SaysNameIfOk (class_told o)
+class_told_says None = tt
+class_told_says (Some (word, parent)) = names_say (identifier_of word) (identifier_of parent) (λ name e. identifier_is (is_identifier word) word name refl e)
 
 class_says : (in_header : Bool) (words : List (List ℕ)) → SaysNameIfOk (class_line in_header words)
 class_says false words = tt
-class_says true words = class_words_say (pair_of words)
+class_says true words = class_told_says (pair_of words)
 
 field_said_says : (class name : List ℕ) (what : FieldOf) (r : Result (Option (Option ℕ)) Cause) → SaysNameIfOk (field_said class name what r)
 field_said_says class name what (Ok count) = tt
@@ -85,13 +85,13 @@ field_elements_say : (class name : List ℕ) (o : Option (FieldOf × List (List 
 field_elements_say class name None = tt
 field_elements_say class name (Some (what, words)) = field_said_says class name what (count_of words)
 
-field_words_say : (o : Option (List ℕ × List ℕ × List (List ℕ))) → SaysNameIfOk (field_words o)
-field_words_say None = tt
-field_words_say (Some (class, name, words)) = field_elements_say class name (field_of words)
+field_told_says : (o : Option (List ℕ × List ℕ × List (List ℕ))) → SaysNameIfOk (field_told o)
+field_told_says None = tt
+field_told_says (Some (class, name, words)) = field_elements_say class name (field_of words)
 
 field_says : (in_header : Bool) (words : List (List ℕ)) → SaysNameIfOk (field_line in_header words)
 field_says false words = tt
-field_says true words = field_words_say (two_names words)
+field_says true words = field_told_says (two_names words)
 
 full_says : (words : List (List ℕ)) → SaysNameIfOk (collector_line words)
 full_says [] = tt

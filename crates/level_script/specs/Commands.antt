@@ -42,14 +42,14 @@ class_names (Some name) None = Err cause.Words
 class_names (Some name) (Some parent) = Ok (said.Class name parent)
 
 -- the two words after `class`
-abbrev pub class_words : Option (List ℕ × List ℕ) → Result Said Cause
-class_words None = Err cause.Words
-class_words (Some (name, parent)) = class_names (identifier_of name) (identifier_of parent)
+abbrev pub class_told : Option (List ℕ × List ℕ) → Result Said Cause
+class_told None = Err cause.Words
+class_told (Some (name, parent)) = class_names (identifier_of name) (identifier_of parent)
 
 -- `class NAME PARENT`, which the header alone may have
 abbrev pub class_line : Bool → List (List ℕ) → Result Said Cause
 class_line false words = Err cause.UnknownCommand
-class_line true words = class_words (pair_of words)
+class_line true words = class_told (pair_of words)
 
 -- the number of elements at the end of a line, where it says one
 abbrev pub count_of : List (List ℕ) → Result (Option (Option ℕ)) Cause
@@ -62,15 +62,15 @@ abbrev pub ref_names : Option (List ℕ) → List (List ℕ) → Option (FieldOf
 ref_names None words = None
 ref_names (Some class) words = Some (of.Ref class, words)
 
-abbrev pub ref_words : List (List ℕ) → Option (FieldOf × List (List ℕ))
-ref_words [] = None
-ref_words (class ∷ words) = ref_names (identifier_of class) words
+abbrev pub ref_told : List (List ℕ) → Option (FieldOf × List (List ℕ))
+ref_told [] = None
+ref_told (class ∷ words) = ref_names (identifier_of class) words
 
 -- what the elements of a field are, and the words behind that
 abbrev pub field_of : List (List ℕ) → Option (FieldOf × List (List ℕ))
 field_of [] = None
 field_of (word ∷ words) =
-    if bytes_eq word (codes "ref") then ref_words words
+    if bytes_eq word (codes "ref") then ref_told words
     else if bytes_eq word (codes "weak") then Some (of.Weak, words)
     else if bytes_eq word (codes "int") then Some (of.Int, words)
     else None
@@ -95,14 +95,14 @@ abbrev pub field_elements : List ℕ → List ℕ → Option (FieldOf × List (L
 field_elements class name None = Err cause.Words
 field_elements class name (Some (what, words)) = field_said class name what (count_of words)
 
-abbrev pub field_words : Option (List ℕ × List ℕ × List (List ℕ)) → Result Said Cause
-field_words None = Err cause.Words
-field_words (Some (class, name, words)) = field_elements class name (field_of words)
+abbrev pub field_told : Option (List ℕ × List ℕ × List (List ℕ)) → Result Said Cause
+field_told None = Err cause.Words
+field_told (Some (class, name, words)) = field_elements class name (field_of words)
 
 -- `field CLASS NAME ref CLASS2 [COUNT]`, `field CLASS NAME weak [COUNT]`, `field CLASS NAME int [COUNT]`, which the header alone may have
 abbrev pub field_line : Bool → List (List ℕ) → Result Said Cause
 field_line false words = Err cause.UnknownCommand
-field_line true words = field_words (two_names words)
+field_line true words = field_told (two_names words)
 
 -- ---- the collector
 

@@ -58,8 +58,8 @@ with_named c name (Ok classes) = Ok (record { classes = classes; in_header = c.i
 with_named c name (Err refusal) = Err (cause.Schema refusal)
 
 -- a line of the header that tells a class
-abbrev pub class_turn : ℕ → Context → List ℕ → List ℕ → Result Context Cause
-class_turn number c name parent = with_classes c (added c.classes number name parent)
+abbrev pub after_class : ℕ → Context → List ℕ → List ℕ → Result Context Cause
+after_class number c name parent = with_classes c (added c.classes number name parent)
 
 -- how many elements a field has: one where the line does not say it, and else 1 to 64
 abbrev pub elements_in : Option (Option ℕ) → Option ℕ
@@ -84,8 +84,8 @@ field_counted number c class name what None = Err cause.Number
 field_counted number c class name what (Some count) = field_known number c name count (find_class c.classes.classes class) (kind_found c.classes.classes what)
 
 -- a line of the header that tells a field
-abbrev pub field_turn : ℕ → Context → List ℕ → List ℕ → FieldOf → Option (Option ℕ) → Result Context Cause
-field_turn number c class name what count = field_counted number c class name what (elements_in count)
+abbrev pub after_field : ℕ → Context → List ℕ → List ℕ → FieldOf → Option (Option ℕ) → Result Context Cause
+after_field number c class name what count = field_counted number c class name what (elements_in count)
 
 -- what a lane's line leaves, and the line
 abbrev pub with_lane : ℕ → Context → ℕ → Result (LaneNames × LaneCmd) Cause → Result Context Cause
@@ -106,31 +106,31 @@ lane_of number c None does = Err cause.Number
 lane_of number c (Some index) does = lane_at number c index (slice_get c.lanes index) does
 
 -- a line of a lane; a number that names no lane is out of its range
-abbrev pub lane_turn : ℕ → Context → Option ℕ → Does → Result Context Cause
-lane_turn number c lane does = lane_of number c (lane_index (length c.lanes) lane) does
+abbrev pub after_lane_line : ℕ → Context → Option ℕ → Does → Result Context Cause
+after_lane_line number c lane does = lane_of number c (lane_index (length c.lanes) lane) does
 
 -- what is known after a line that says this, or what is wrong with it
-abbrev pub act_turn : ℕ → Context → Said → Result Context Cause
-act_turn number c said.Nothing = Ok c
-act_turn number c (said.Class name parent) = class_turn number c name parent
-act_turn number c (said.Field class name what count) = field_turn number c class name what count
-act_turn number c said.Full = Ok (with_line c number (cmd.Gc gc_cmd.Full))
-act_turn number c (said.Lane lane does) = lane_turn number c lane does
+abbrev pub after_said : ℕ → Context → Said → Result Context Cause
+after_said number c said.Nothing = Ok c
+after_said number c (said.Class name parent) = after_class number c name parent
+after_said number c (said.Field class name what count) = after_field number c class name what count
+after_said number c said.Full = Ok (with_line c number (cmd.Gc gc_cmd.Full))
+after_said number c (said.Lane lane does) = after_lane_line number c lane does
 
 -- the same of a line that may be wrong
 abbrev pub if_said : ℕ → Context → Result Said Cause → Result Context Cause
-if_said number c (Ok what) = act_turn number c what
+if_said number c (Ok what) = after_said number c what
 if_said number c (Err why) = Err why
 
 -- what is known after a line, or what is wrong with it
-abbrev pub turn : ℕ → Context → List ℕ → Result Context Cause
-turn number c line = if_said number c (said_by_line c.in_header line)
+abbrev pub after_line : ℕ → Context → List ℕ → Result Context Cause
+after_line number c line = if_said number c (said_by_line c.in_header line)
 
 -- the context that is left is what is wanted, and so is the cause; there may be no memory for it
-abbrev pub Turns : {A : Type 0} → Result Context Cause → Context → Result A Stop → Type 0
-Turns want new (Ok done) = want ≡ Ok new
-Turns want new (Err (stop.Faulty why)) = want ≡ Err why
-Turns want new (Err stop.Memory) = Unit {0}
+abbrev pub Takes : {A : Type 0} → Result Context Cause → Context → Result A Stop → Type 0
+Takes want new (Ok done) = want ≡ Ok new
+Takes want new (Err (stop.Faulty why)) = want ≡ Err why
+Takes want new (Err stop.Memory) = Unit {0}
 
 -- the script that all lines are
 abbrev pub script_from : Context → Script

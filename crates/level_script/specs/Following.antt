@@ -9,7 +9,7 @@ use Rattle.level_script.specs.Lanes.{bound_var}
 use Rattle.level_script.specs.LaneCommands.{frame_of}
 use Rattle.level_script.specs.Lines.{input_lines, line_words}
 use Rattle.level_script.specs.Operands.{closes, is_some}
-use Rattle.level_script.specs.Reading.{line_turn, read_on, read_from, script_of_lines, outcome_of, fault_of}
+use Rattle.level_script.specs.Reading.{after_numbered, read_on, read_from, script_of_lines, outcome_of, fault_of}
 use Rattle.level_script.specs.declared.cause.Cause.{Cause}
 use Rattle.level_script.specs.declared.cause.ScriptErr.{ScriptErr}
 use Rattle.level_script.specs.declared.context.Context.{Context}
@@ -45,7 +45,7 @@ numbered number (line ∷ lines) = (number, line) ∷ numbered (number + 1) line
 -- what is known after lines that have these numbers, or the first fault
 abbrev pub read_numbered : Context → List (ℕ × List ℕ) → Result Context ScriptErr
 read_numbered c [] = Ok c
-read_numbered c ((number, line) ∷ lines) = read_on number (line_turn number c line) (λ next. read_numbered next lines)
+read_numbered c ((number, line) ∷ lines) = read_on number (after_numbered number c line) (λ next. read_numbered next lines)
 
 -- Comments and blank lines do nothing but that they are counted: an input is what its other lines are, with the numbers that they have.
 abbrev pub QuietLines : Type 0

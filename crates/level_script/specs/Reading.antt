@@ -2,7 +2,7 @@
 use Rattle.std.specs.Prelude.{◌≡◌, ℕ, ◌+◌, ◌-◌, ◌<◌, ◌≤◌, ◌⊎◌, ◌↔◌, nat_lt, List, [], ◌∷◌, length, Option, Some, None, Result, Ok, Err, take, slice_index_or, if◌then◌else◌}
 use Rattle.std.specs.Result.{result_ok, result_err}
 use Rattle.level_script.specs.Lines.{input_lines}
-use Rattle.level_script.specs.Context.{start, turn, script_from}
+use Rattle.level_script.specs.Context.{start, after_line, script_from}
 use Rattle.level_script.specs.declared.cause.Cause.{Cause}
 use Rattle.level_script.specs.declared.cause.Cause.TheVariants as cause
 use Rattle.level_script.specs.declared.cause.ParseErr.{ParseErr}
@@ -21,8 +21,8 @@ abbrev pub bad_at : ℕ → Cause → ParseErr
 bad_at number why = parse.Bad (fault_at number why)
 
 -- what is known after a line, or what is wrong with it; there are at most 200,000 lines
-unfoldable pub line_turn : ℕ → Context → List ℕ → Result Context Cause
-line_turn number c line = if nat_lt 200000 number then Err cause.TooLong else turn number c line
+unfoldable pub after_numbered : ℕ → Context → List ℕ → Result Context Cause
+after_numbered number c line = if nat_lt 200000 number then Err cause.TooLong else after_line number c line
 
 -- what is read on after a line
 abbrev pub read_on : ℕ → Result Context Cause → (Context → Result Context ScriptErr) → Result Context ScriptErr
@@ -32,7 +32,7 @@ read_on number (Err why) more = Err (fault_at number why)
 -- what is known after all lines, the first of which has this number, or the first fault
 unfoldable pub read_from : ℕ → Context → List (List ℕ) → Result Context ScriptErr
 read_from number c [] = Ok c
-read_from number c (line ∷ lines) = read_on number (line_turn number c line) (λ next. read_from (number + 1) next lines)
+read_from number c (line ∷ lines) = read_on number (after_numbered number c line) (λ next. read_from (number + 1) next lines)
 
 -- the script of lines that are read
 abbrev pub script_of_lines : Result Context ScriptErr → Result Script ScriptErr
@@ -54,10 +54,10 @@ unfoldable pub fault_of : List ℕ → Limits → Option ScriptErr
 fault_of bytes limits = result_err (outcome_of bytes limits)
 
 -- the context that is left is what is wanted, and so is the fault; there may be no memory for it
-abbrev pub TurnsLine : {A : Type 0} → Result Context Cause → ℕ → Context → Result A ParseErr → Type 0
-TurnsLine want number new (Ok done) = want ≡ Ok new
-TurnsLine want number new (Err (parse.Bad fault)) = (why : Cause) × (want ≡ Err why) × (fault ≡ fault_at number why)
-TurnsLine want number new (Err parse.Memory) = Unit {0}
+abbrev pub TakesLine : {A : Type 0} → Result Context Cause → ℕ → Context → Result A ParseErr → Type 0
+TakesLine want number new (Ok done) = want ≡ Ok new
+TakesLine want number new (Err (parse.Bad fault)) = (why : Cause) × (want ≡ Err why) × (fault ≡ fault_at number why)
+TakesLine want number new (Err parse.Memory) = Unit {0}
 
 -- the same, of several lines
 abbrev pub ReadsLines : {A : Type 0} → Result Context ScriptErr → Context → Result A ParseErr → Type 0
@@ -88,7 +88,7 @@ pub record IsFirstFault (limits : Limits) (lines : List (List ℕ)) (fault : Scr
   pub there : fault.line ≤ length lines
   pub before : Context
   pub read : read_from 1 (start limits) (take (fault.line - 1) lines) ≡ Ok before
-  pub faulty : line_turn fault.line before (slice_index_or lines (fault.line - 1) []) ≡ Err fault.cause
+  pub faulty : after_numbered fault.line before (slice_index_or lines (fault.line - 1) []) ≡ Err fault.cause
 
 -- an input that is too long has that fault, and each other the first of its lines
 abbrev pub HasFault : List ℕ → Limits → ScriptErr → Type 0

@@ -5,11 +5,11 @@ ghost use Rattle.level_script.specs.Commands.{pair_of, only_of, class_line, coun
 ghost use Rattle.level_script.specs.LaneCommands.{tail_of};
 
 use crate::cause::Cause;
+use crate::forms::{Identifier, Number, is_digits, read_identifier, read_number, read_variable};
 use crate::lane_cmd::{Verb, tail_of};
 use crate::lines::{first_word, is_over};
 use crate::operand::{Binds, Form, Operand, Tail, read_operand};
 use crate::said::{Does, FieldOf, Said};
-use crate::word::{Identifier, Number, is_digits, read_identifier, read_number, read_variable};
 
 /// The two words that are left, where there are two.
 pub fn pair<'a>(rest: &'a [u8]) -> Option<(&'a [u8], &'a [u8])>
@@ -51,7 +51,7 @@ pub fn class_line<'a>(in_header: bool, rest: &'a [u8]) -> Result<Said<'a>, Cause
     Ok(Said::Class { name, parent })
 }
 
-// The number of elements at the end of a line, where it says one.
+/// The number of elements at the end of a line, where it says one.
 fn read_count(rest: &[u8]) -> Result<Option<Number>, Cause>
     ensures { result ≡ count_of (line_words rest.now) }
 {
@@ -65,7 +65,7 @@ fn read_count(rest: &[u8]) -> Result<Option<Number>, Cause>
     }
 }
 
-// What the elements of a field are, and what stands behind that.
+/// What the elements of a field are, and what stands behind that.
 fn field_of<'a>(rest: &'a [u8]) -> Option<(FieldOf<'a>, &'a [u8])>
     ensures { MatchOption result (field_of (line_words rest.now) ≡ None) (λ r. field_of (line_words rest.now) ≡ Some (r.0, line_words r.1.now)) }
 {
@@ -82,7 +82,7 @@ fn field_of<'a>(rest: &'a [u8]) -> Option<(FieldOf<'a>, &'a [u8])>
     }
 }
 
-// The two words in front, as identifiers, and what stands behind them.
+/// The two words in front, as identifiers, and what stands behind them.
 fn two_names<'a>(rest: &'a [u8]) -> Option<(Identifier<'a>, Identifier<'a>, &'a [u8])>
     ensures { MatchOption result (two_names (line_words rest.now) ≡ None) (λ r. two_names (line_words rest.now) ≡ Some (r.0, r.1, line_words r.2.now)) }
 {
@@ -132,7 +132,7 @@ pub fn collector_line<'a>(rest: &'a [u8]) -> Result<Said<'a>, Cause>
     }
 }
 
-// A command with one word behind it.
+/// A command with one word behind it.
 fn one<'a>(verb: Verb, form: Form, rest: &'a [u8]) -> Option<Does<'a>>
     ensures { result ≡ does_one verb form (only_of (line_words rest.now)) }
 {
@@ -146,7 +146,7 @@ fn one<'a>(verb: Verb, form: Form, rest: &'a [u8]) -> Option<Does<'a>>
     })
 }
 
-// A command with two words behind it.
+/// A command with two words behind it.
 fn two<'a>(verb: Verb, one: Form, two: Form, rest: &'a [u8]) -> Option<Does<'a>>
     ensures { result ≡ does_two verb one two (pair_of (line_words rest.now)) }
 {
@@ -161,7 +161,7 @@ fn two<'a>(verb: Verb, one: Form, two: Form, rest: &'a [u8]) -> Option<Does<'a>>
     })
 }
 
-// A command with a variable that it binds and another word behind it.
+/// A command with a variable that it binds and another word behind it.
 fn binding<'a>(verb: Verb, form: Form, rest: &'a [u8]) -> Option<Does<'a>>
     ensures { result ≡ does_binds verb form (pair_of (line_words rest.now)) }
 {

@@ -1,19 +1,19 @@
 //! What the lines so far have made known, and what one more line adds.
 ghost use Rattle.std.specs.Prelude.{◌≡◌, ◌≤◌, length, IsTrue, IfOk, IfSome, Ok};
 ghost use Rattle.class_schema.specs.Lawful.{has_target};
-ghost use Rattle.level_script.specs.Context.{AreLawful, start, with_line, class_turn, elements_in, kind_found, with_named, field_turn, lane_turn, act_turn, Turns, script_from};
+ghost use Rattle.level_script.specs.Context.{AreLawful, start, with_line, after_class, elements_in, kind_found, with_named, after_field, after_lane_line, after_said, Takes, script_from};
 
 use crate::cause::{Cause, Stop};
+use crate::forms::{Identifier, Number};
 use crate::lanes::Lanes;
 use crate::limits::Limits;
 use crate::names::NameTable;
 use crate::said::{Does, FieldOf, Said};
 use crate::script::{Cmd, FieldNames, GcCmd, Line, Lines, Script};
-use crate::word::{Identifier, Number};
 use class_schema::{AddErr, ClassTable, FieldKind};
 use std::alloc::{AllocError, Global};
 
-// How many elements a field has.
+/// How many elements a field has.
 fn elements_in(count: &Option<Number>) -> Option<u32>
     ensures count { result ≡ elements_in count.now }
     ensures some { IfSome result (λ n. 1 ≤ n) }
@@ -58,8 +58,9 @@ impl Context {
         })
     }
 
+    /// Appends a line that does something, which ends the header.
     fn push(&mut self, number: u32, cmd: Cmd) -> Result<(), Stop>
-        ensures { Turns (Ok (with_line self.old number cmd)) self.new result }
+        ensures { Takes (Ok (with_line self.old number cmd)) self.new result }
     {
         self.in_header = false;
         match self.lines.push(Line { number, cmd }) {
@@ -68,13 +69,14 @@ impl Context {
         }
     }
 
+    /// A line of the header that tells a class.
     fn add_class(
         &mut self,
         number: u32,
         name: &Identifier<'_>,
         parent: &Identifier<'_>,
     ) -> Result<(), Stop>
-        ensures { Turns (class_turn number self.old name.now parent.now) self.new result }
+        ensures { Takes (after_class number self.old name.now parent.now) self.new result }
     {
         match self
             .classes
@@ -86,7 +88,7 @@ impl Context {
         }
     }
 
-    // What the elements of a field are.
+    /// What the elements of a field are.
     fn kind_found(&self, of: &FieldOf<'_>) -> Option<FieldKind>
         ensures kind { result ≡ kind_found self.now.classes.classes of.now }
         ensures known { IfSome result (λ kind. IsTrue (has_target (length self.now.classes.classes) kind)) }
@@ -101,9 +103,9 @@ impl Context {
         }
     }
 
-    // The name of a field of the table is known.
+    /// The name of a field of the table is known.
     fn name_field(&mut self, name: &Identifier<'_>) -> Result<(), Stop>
-        ensures { Turns (with_named self.old name.now (Ok self.old.classes)) self.new result }
+        ensures { Takes (with_named self.old name.now (Ok self.old.classes)) self.new result }
     {
         match self.fields.add(name.as_str()) {
             Ok(_) => Ok(()),
@@ -111,6 +113,7 @@ impl Context {
         }
     }
 
+    /// A line of the header that tells a field of a class.
     fn add_field(
         &mut self,
         number: u32,
@@ -119,7 +122,7 @@ impl Context {
         of: &FieldOf<'_>,
         count: &Option<Number>,
     ) -> Result<(), Stop>
-        ensures { Turns (field_turn number self.old class.now name.now of.now count.now) self.new result }
+        ensures { Takes (after_field number self.old class.now name.now of.now count.now) self.new result }
     {
         let Some(count) = elements_in(count) else {
             return Err(Stop::Faulty(Cause::Number));
@@ -142,7 +145,7 @@ impl Context {
 
     /// A line of a lane.
     pub fn lane_line(&mut self, number: u32, lane: &Number, does: &Does<'_>) -> Result<(), Stop>
-        ensures { Turns (lane_turn number self.old lane.now does.now) self.new result }
+        ensures { Takes (after_lane_line number self.old lane.now does.now) self.new result }
     {
         let Some(lane) = self.lanes.find(lane) else {
             return Err(Stop::Faulty(Cause::Number));
@@ -153,7 +156,7 @@ impl Context {
 
     /// A line that says this.
     pub fn act(&mut self, number: u32, said: &Said<'_>) -> Result<(), Stop>
-        ensures { Turns (act_turn number self.old said.now) self.new result }
+        ensures { Takes (after_said number self.old said.now) self.new result }
     {
         match said {
             Said::Nothing => Ok(()),

@@ -3,12 +3,12 @@ ghost use Rattle.std.specs.Prelude.{◌≡◌, ◌<◌, ◌≤◌, length, map, 
 ghost use Rattle.level_script.specs.Lanes.{closed_lane, bound_var, spot_found, bound_target, known_of, known_bound, command_found, with_frame, with_bound, lane_step, lane_index, Steps, StepsAt, count_of};
 
 use crate::cause::{Cause, Stop};
+use crate::forms::{Identifier, Number};
 use crate::lane_cmd::{LaneCmd, command_of, frame_of};
 use crate::names::{NameTable, NumberSet};
 use crate::operand::{Binds, Frame, Known, Operand, Place, element_in};
 use crate::said::Does;
 use crate::script::{Counts, Spot};
-use crate::word::{Identifier, Number};
 use class_schema::ClassTable;
 use std::alloc::{AllocError, Global};
 use std::marker::Model;
@@ -25,6 +25,7 @@ pub struct LaneNames {
 }
 
 impl LaneNames {
+    /// A lane whose frame was never open, with no variable.
     fn new(alloc: Global) -> LaneNames
         ensures { result ≡ closed_lane }
     {
@@ -35,7 +36,7 @@ impl LaneNames {
         }
     }
 
-    // The number of a variable that is bound in the open frame.
+    /// The number of a variable that is bound in the open frame.
     fn bound_var(&self, name: &str) -> Option<u32>
         ensures { result ≡ bound_var self.now name.now }
     {
@@ -47,7 +48,7 @@ impl LaneNames {
         }
     }
 
-    // The variable whose object is stored, or none.
+    /// The variable whose object is stored, or none.
     fn target(&self, to: &Option<Identifier<'_>>) -> Option<Option<u32>>
         ensures { result ≡ bound_target self.now to.now }
     {
@@ -57,7 +58,7 @@ impl LaneNames {
         Some(Some(self.bound_var(name.as_str())?))
     }
 
-    // An element of a variable that is bound, in a field whose name is known.
+    /// An element of a variable that is bound, in a field whose name is known.
     fn spot(&self, fields: &NameTable, place: &Place<'_>) -> Option<Spot>
         ensures { result ≡ spot_found self.now fields.now place.now }
     {
@@ -71,7 +72,7 @@ impl LaneNames {
         })
     }
 
-    // What a word stands for, if its names are known.
+    /// What a word stands for, if its names are known.
     fn known(&self, classes: &ClassTable, fields: &NameTable, word: &Operand<'_>) -> Option<Known>
         ensures { result ≡ known_of classes.now.classes fields.now self.now word.now }
     {
@@ -86,7 +87,7 @@ impl LaneNames {
         }
     }
 
-    // The number of the variable that is bound.
+    /// The number of the variable that is bound.
     fn known_bound(&self, binds: &Binds<'_>) -> Known
         ensures { result ≡ known_bound self.now binds.now }
     {
@@ -96,7 +97,7 @@ impl LaneNames {
         }
     }
 
-    // The command that a line of the lane is, if all names are known.
+    /// The command that a line of the lane is, if all names are known.
     fn command(&self, classes: &ClassTable, fields: &NameTable, does: &Does<'_>) -> Option<LaneCmd>
         ensures { result ≡ command_found classes.now.classes fields.now self.now does.now }
     {
@@ -105,7 +106,7 @@ impl LaneNames {
         command_of(does.verb, self.known_bound(&does.binds), first, second)
     }
 
-    // Opens or closes the frame; a close ends the variables.
+    /// Opens or closes the frame; a close ends the variables.
     fn enter(&mut self, frame: Frame)
         ensures { self.new ≡ with_frame frame self.old }
     {
@@ -119,7 +120,7 @@ impl LaneNames {
         }
     }
 
-    // Binds a variable.
+    /// Binds a variable.
     fn bind(&mut self, binds: &Binds<'_>) -> Result<(), AllocError>
         ensures { OnOk result (self.new ≡ with_bound binds.now self.old) }
     {
@@ -131,7 +132,7 @@ impl LaneNames {
         Ok(())
     }
 
-    // Does what a line of the lane says.
+    /// Does what a line of the lane says.
     fn step(
         &mut self,
         classes: &ClassTable,
@@ -157,6 +158,7 @@ impl LaneNames {
         }
     }
 
+    /// How many object variables the lane has.
     fn count(&self) -> u32
         ensures { result ≡ count_of self.now }
     {

@@ -4,7 +4,7 @@ ghost use Rattle.std.specs.List.{position_or_len};
 ghost use Rattle.std.specs.Str.{IsAscii};
 ghost use Rattle.level_script.specs.Lines.{input_lines, line_words, without_return, is_blank, BeginsWord, is_none};
 
-// The line without a carriage return at its end.
+/// The line without a carriage return at its end.
 fn without_return(line: &[u8]) -> &[u8]
     ensures { result.now ≡ without_return line.now }
 {
@@ -16,7 +16,7 @@ fn without_return(line: &[u8]) -> &[u8]
     }
 }
 
-// What stands before a place, and what stands after it.
+/// What stands before a place, and what stands after it.
 fn cut_at<'a>(bytes: &'a [u8], at: usize) -> (&'a [u8], &'a [u8])
     requires { at < length bytes.now }
     ensures front { result.0.now ≡ take at bytes.now }
@@ -27,7 +27,7 @@ fn cut_at<'a>(bytes: &'a [u8], at: usize) -> (&'a [u8], &'a [u8])
     (front, back)
 }
 
-// What stands behind all.
+/// What stands behind all.
 fn after_all<'a>(bytes: &'a [u8]) -> &'a [u8]
     ensures { result.now ≡ [] }
 {
@@ -35,7 +35,7 @@ fn after_all<'a>(bytes: &'a [u8]) -> &'a [u8]
     rest
 }
 
-// Where the first line feed is.
+/// Where the first line feed is.
 fn feed_at(bytes: &[u8]) -> Option<usize>
     ensures { result ≡ position (λ b. b == 10) bytes.now }
 {
@@ -60,38 +60,39 @@ pub fn first_line<'a>(bytes: &'a [u8]) -> Option<(&'a [u8], &'a [u8])>
     }
 }
 
+/// Whether a byte is a space or a tab.
 fn is_blank(byte: u8) -> bool
     ensures { result ≡ is_blank byte }
 {
     byte == b' ' || byte == b'\t'
 }
 
-// Where the first blank is.
+/// Where the first blank is.
 fn blank_at(bytes: &[u8]) -> Option<usize>
     ensures { result ≡ position is_blank bytes.now }
 {
     bytes.iter().position(|b| is_blank(*b))
 }
 
-// Where the first byte that is no blank is.
-fn word_at(bytes: &[u8]) -> Option<usize>
+/// Where the first byte that is no blank is.
+fn start_at(bytes: &[u8]) -> Option<usize>
     ensures { result ≡ position (λ b. not (is_blank b)) bytes.now }
 {
     bytes.iter().position(|b| !is_blank(*b))
 }
 
-// How many blanks are in front.
+/// How many blanks are in front.
 fn blanks(bytes: &[u8]) -> usize
     ensures count { result ≡ position_or_len (λ b. not (is_blank b)) bytes.now }
     ensures bound { result ≤ length bytes.now }
 {
-    match word_at(bytes) {
+    match start_at(bytes) {
         Some(start) => start,
         None => bytes.len(),
     }
 }
 
-// The bytes from the first that is no blank.
+/// The bytes from the first that is no blank.
 fn skip_blanks(bytes: &[u8]) -> &[u8]
     ensures words { line_words result.now ≡ line_words bytes.now }
     ensures begins { BeginsWord result.now }

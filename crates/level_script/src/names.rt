@@ -12,19 +12,19 @@ const MOST: usize = 4294967295;
 /// How many places for hints there are.
 const PLACES: usize = 4096;
 
-// The four bytes from this place on as a number.
-fn word_at(bytes: &[u8], at: usize) -> u32
+/// The four bytes from this place on as a number.
+fn four_bytes_at(bytes: &[u8], at: usize) -> u32
     requires { at + 4 ≤ length bytes.now }
 {
     u32::from_le_bytes([bytes[at], bytes[at + 1], bytes[at + 2], bytes[at + 3]])
 }
 
-// A number for a name, of its first and its last four bytes, or of each of fewer. No clause says
-// which, since only time rests on it.
+/// A number for a name, of its first and its last four bytes, or of each of fewer. No clause says
+/// which, since only time rests on it.
 fn mix(name: &[u8]) -> u64 {
     let count = name.len();
     let key = if count >= 4 {
-        word_at(name, 0) as u64 | (word_at(name, count - 4) as u64) << 32
+        four_bytes_at(name, 0) as u64 | (four_bytes_at(name, count - 4) as u64) << 32
     } else if count > 0 {
         name[0] as u64 | (name[count / 2] as u64) << 8 | (name[count - 1] as u64) << 16
     } else {
@@ -33,7 +33,7 @@ fn mix(name: &[u8]) -> u64 {
     key.wrapping_mul(0x9e37_79b9_7f4a_7c15)
 }
 
-// The place of a name's hint.
+/// The place of a name's hint.
 fn place_of(mixed: u64) -> usize {
     (mixed >> 52) as usize
 }
@@ -79,7 +79,7 @@ impl NameTable {
         self.names.len() as u32
     }
 
-    // The number of a name, where the hint at its place is right.
+    /// The number of a name, where the hint at its place is right.
     #[inline(always)]
     fn hinted(&self, name: &str) -> Option<u32>
         ensures { IfSome result (λ number. number_of_name self.now name.now ≡ Some number) }
@@ -98,7 +98,7 @@ impl NameTable {
         }
     }
 
-    // Keeps the number of a name at its place.
+    /// Keeps the number of a name at its place.
     fn hint(&mut self, name: &str, number: u32) -> Result<(), AllocError>
         ensures { self.new ≡ self.old }
     {
@@ -145,7 +145,7 @@ impl NameTable {
         }
     }
 
-    // The same as `add`, by the hashes alone.
+    /// The same as `add`, by the hashes alone.
     fn insert(&mut self, name: &str) -> Result<u32, AllocError>
         ensures number { IfOk result (λ number. number ≡ number_in self.old name.now) }
         ensures names { OnOk result (self.new ≡ with_name self.old name.now) }
@@ -173,7 +173,7 @@ impl NameTable {
     }
 }
 
-// Appends zeros until there is an element at this place.
+/// Appends zeros until there is an element at this place.
 fn reach(rounds: &mut Vec<u32>, at: usize) -> Result<(), AllocError>
     ensures there { OnOk result (at < length rounds.new.items) }
     ensures same { AreSame rounds.old.items rounds.new.items }
@@ -219,6 +219,7 @@ impl NumberSet {
         }
     }
 
+    /// Whether a number is there.
     pub fn has(&self, number: u32) -> bool
         ensures { result ≡ has_number self.now number }
     {

@@ -2,9 +2,9 @@
 ghost use Rattle.std.specs.Prelude.{◌≡◌};
 ghost use Rattle.level_script.specs.Operands.{allows, switch_of, target_of, operand_of, element_in, is_in_range, var_known, target_known, class_known, spot_known, switch_known, value_known};
 
+use crate::forms::{Identifier, Number, is_digits, read_identifier, read_number, read_variable};
 use crate::script::Spot;
 use crate::spot::read_spot;
-use crate::word::{Identifier, Number, is_digits, read_identifier, read_number, read_variable};
 use world_model::ClassId;
 
 /// What a command wants of its lane's frame, and does to it.
@@ -100,6 +100,7 @@ pub enum Known {
 }
 
 impl Known {
+    /// The number of the variable, if it is one.
     pub fn var(self) -> Option<u32>
         ensures { result ≡ var_known self }
     {
@@ -109,6 +110,7 @@ impl Known {
         }
     }
 
+    /// The number of the variable or none, if it is one of these.
     pub fn target(self) -> Option<Option<u32>>
         ensures { result ≡ target_known self }
     {
@@ -118,6 +120,7 @@ impl Known {
         }
     }
 
+    /// The class, if it is one.
     pub fn class(self) -> Option<ClassId>
         ensures { result ≡ class_known self }
     {
@@ -127,6 +130,7 @@ impl Known {
         }
     }
 
+    /// The element, if it is one.
     pub fn spot(self) -> Option<Spot>
         ensures { result ≡ spot_known self }
     {
@@ -136,6 +140,7 @@ impl Known {
         }
     }
 
+    /// True for `on`, false for `off`, if it is one of these.
     pub fn switch(self) -> Option<bool>
         ensures { result ≡ switch_known self }
     {
@@ -145,6 +150,7 @@ impl Known {
         }
     }
 
+    /// The number, if it is one.
     pub fn value(self) -> Option<u64>
         ensures { result ≡ value_known self }
     {

@@ -4,7 +4,7 @@ ghost use Rattle.std.specs.Str.{IsAscii};
 ghost use Rattle.level_script.specs.Frames.{IsPlayable};
 ghost use Rattle.level_script.specs.Lines.{input_lines};
 ghost use Rattle.level_script.specs.Context.{AreLawful};
-ghost use Rattle.level_script.specs.Reading.{bad_at, line_turn, read_from, TurnsLine, ReadsLines, Reads};
+ghost use Rattle.level_script.specs.Reading.{bad_at, after_numbered, read_from, TakesLine, ReadsLines, Reads};
 
 use crate::cause::{Cause, ParseErr, ScriptErr, Stop};
 use crate::context::Context;
@@ -19,14 +19,15 @@ const BYTES: usize = 16777216;
 /// The most lines of an input.
 const LINES: u32 = 200000;
 
+/// The answer for a faulty line.
 fn bad(line: u32, cause: Cause) -> ParseErr
     ensures { result ≡ bad_at line cause }
 {
     ParseErr::Bad(ScriptErr { line, cause })
 }
 
-// Takes one line.
-#[tactic(auto, unfolding(crate::specs::Reading::line_turn))]
+/// Takes one line.
+#[tactic(auto, unfolding(crate::specs::Reading::after_numbered))]
 fn take_line(
     context: &mut Context,
     number: u32,
@@ -34,7 +35,7 @@ fn take_line(
     is_ascii: bool,
 ) -> Result<(), ParseErr>
     requires { IsTrue is_ascii → IsAscii line.now }
-    ensures turn { TurnsLine (line_turn number context.old line.now) number context.new result }
+    ensures after_line { TakesLine (after_numbered number context.old line.now) number context.new result }
     ensures within { OnOk result (number ≤ 200000) }
 {
     if number > LINES {
@@ -47,7 +48,7 @@ fn take_line(
     }
 }
 
-// Takes all lines. Of ASCII alone, as most inputs are, no line is looked at again for its UTF-8.
+/// Takes all lines. Of ASCII alone, as most inputs are, no line is looked at again for its UTF-8.
 fn take_lines(context: &mut Context, bytes: &[u8]) -> Result<(), ParseErr>
     ensures { ReadsLines (read_from 1 context.old (input_lines bytes.now)) context.new result }
 {

@@ -1,7 +1,7 @@
 //! What the words of a line say, before names are looked up.
+use crate::forms::{Identifier, Number};
 use crate::lane_cmd::Verb;
 use crate::operand::{Binds, Operand};
-use crate::word::{Identifier, Number};
 
 /// What a line says.
 #[derive(Drop)]

@@ -75,6 +75,7 @@ impl Lines {
         Ok(())
     }
 
+    /// The lines in order.
     pub fn as_slice(&self) -> &[Line]
         ensures { result.now ≡ self.now }
     {
@@ -104,6 +105,7 @@ impl Counts {
         Counts { items }
     }
 
+    /// The numbers, one for each lane.
     pub fn as_slice(&self) -> &[u32]
         ensures { result.now ≡ self.now }
     {

@@ -2,10 +2,10 @@
 ghost use Rattle.std.specs.Prelude.{◌≡◌};
 ghost use Rattle.level_script.specs.Forms.{bracketed, element_of, spot_of};
 
+use crate::forms::{Number, front_identifier, front_variable, is_digits, read_number, split_front};
 use crate::operand::Place;
-use crate::word::{Number, front_identifier, front_variable, is_digits, read_number, split_front};
 
-// The number in front of a last `]`.
+/// The number in front of a last `]`.
 fn bracketed(word: &[u8]) -> Option<Number>
     ensures { result ≡ bracketed word.now }
 {
@@ -17,7 +17,7 @@ fn bracketed(word: &[u8]) -> Option<Number>
     }
 }
 
-// The element that is told behind a field.
+/// The element that is told behind a field.
 fn element_of(word: &[u8]) -> Option<Number>
     ensures { result ≡ element_of word.now }
 {

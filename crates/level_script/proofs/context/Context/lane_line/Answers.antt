@@ -1,12 +1,12 @@
 use Rattle.std.proofs.Common.{sym, subst, Result}
-use Rattle.level_script.specs.Context.{Turns}
+use Rattle.level_script.specs.Context.{Takes}
 use Rattle.level_script.specs.declared.context.Context.{Context}
 use Rattle.level_script.specs.declared.cause.Cause.{Cause}
-use Rattle.level_script.proofs.Turning.{lane_ok}
+use Rattle.level_script.proofs.Taking.{lane_ok}
 use Rattle.level_script.proofs.context.Context.lane_line.Goals as goal
 
 pub returns : goal.returns
 returns c =
     let done = lane_ok c.args.number c.args.self.now c.args.lane.now c.args.does.now c.in-Some.lane c.step.new.self c.in_ok-cmd.cmd (sym c.in-Some.ensures) c.in_ok-cmd.ensures in
-    let P : Result Context Cause → Type 0 = λ want. Turns want c.push.new.self c.push.result in
+    let P : Result Context Cause → Type 0 = λ want. Takes want c.push.new.self c.push.result in
     subst P (sym done) c.push.ensures

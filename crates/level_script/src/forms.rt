@@ -33,7 +33,7 @@ impl Number {
         }
     }
 
-    // One that is not.
+    /// One that is not.
     fn out_of_range() -> Number
         ensures { result ≡ None }
     {
@@ -70,6 +70,7 @@ impl<'a> Model for Identifier<'a> {
 }
 
 impl<'a> Identifier<'a> {
+    /// The identifier as a text.
     pub fn as_str(&self) -> &'a str
         ensures { result.now ≡ self.now }
     {
@@ -77,13 +78,14 @@ impl<'a> Identifier<'a> {
     }
 }
 
+/// Whether an identifier may begin with this byte.
 fn begins_identifier(byte: u8) -> bool
     ensures { result ≡ begins_identifier byte }
 {
     byte.is_ascii_alphabetic() || byte == b'_'
 }
 
-// Each byte that continues an identifier stands at its own place, and a dot at every other one.
+/// Each byte that continues an identifier stands at its own place, and a dot at every other one.
 static CONTINUES: [u8; 256] = *b"\
     ................................\
     ................0123456789......\
@@ -94,12 +96,14 @@ static CONTINUES: [u8; 256] = *b"\
     ................................\
     ................................";
 
+/// Whether this byte may stand in an identifier behind its first.
 fn continues_identifier(byte: u8) -> bool
     ensures { result ≡ continues_identifier byte }
 {
     CONTINUES[byte as usize] != b'.'
 }
 
+/// Whether each byte may stand in an identifier behind its first.
 fn all_continue(bytes: &[u8]) -> bool
     ensures { result ≡ list_all continues_identifier bytes.now }
 {
@@ -127,14 +131,14 @@ pub fn read_variable<'a>(word: &'a [u8]) -> Option<Identifier<'a>>
     }
 }
 
-// Where the first byte is that continues no identifier.
+/// Where the first byte is that continues no identifier.
 fn front_end(word: &[u8]) -> Option<usize>
     ensures { result ≡ position (λ b. not (continues_identifier b)) word.now }
 {
     word.iter().position(|b| !continues_identifier(*b))
 }
 
-// How many bytes in front continue an identifier.
+/// How many bytes in front continue an identifier.
 fn front_length(word: &[u8]) -> usize
     ensures count { result ≡ front_length word.now }
     ensures bound { result ≤ length word.now }
@@ -154,7 +158,7 @@ pub fn split_front<'a>(word: &'a [u8]) -> (&'a [u8], &'a [u8])
     word.split_at(front_length(word))
 }
 
-// Whether bytes that continue an identifier are one.
+/// Whether bytes that continue an identifier are one.
 fn is_front(front: &[u8]) -> bool
     requires { IsTrue (list_all continues_identifier front.now) }
     ensures { result ≡ is_identifier front.now }
@@ -197,7 +201,7 @@ pub fn is_digits(word: &[u8]) -> bool
     word.iter().all(|b| b.is_ascii_digit())
 }
 
-// The number that at most 20 digits write.
+/// The number that at most 20 digits write.
 fn written(digits: &[u8]) -> u128
     requires form { IsTrue (is_digits digits.now) }
     requires few { length digits.now ≤ 20 }

@@ -2,8 +2,8 @@
 use Rattle.std.proofs.Common.{◌≡◌, ℕ, zero, suc, ◌+◌, ◌<◌, ◌==◌, Bool, true, false, not, ◌&&◌, List, [], ◌∷◌, length, slice_index_or, refl, subst, arith}
 use Rattle.std.specs.Bool.{beq}
 use Rattle.level_script.specs.Forms.{continues_identifier}
-use Rattle.level_script.specs.declared.word.TheConstants.{CONTINUES}
-use Rattle.level_script.proofs.word.continues_identifier.Goals as goal
+use Rattle.level_script.specs.declared.forms.TheConstants.{CONTINUES}
+use Rattle.level_script.proofs.forms.continues_identifier.Goals as goal
 
 -- these places, the first of which is that of byte b, tell of each byte what is so
 tells : List ℕ → ℕ → Bool

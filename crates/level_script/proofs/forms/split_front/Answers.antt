@@ -2,7 +2,7 @@ use Rattle.std.proofs.Common.{◌≡◌, ap, ◌∙◌, take}
 use Rattle.std.specs.List.{list_all}
 use Rattle.level_script.specs.Forms.{continues_identifier, front}
 use Rattle.level_script.proofs.Forming.{front_continues}
-use Rattle.level_script.proofs.word.split_front.Goals as goal
+use Rattle.level_script.proofs.forms.split_front.Goals as goal
 
 pub returns-clause-form : goal.returns-clause-form
 returns-clause-form c =

@@ -1,7 +1,7 @@
 use Rattle.std.proofs.Common.{◌<◌, ◌^◌, sym, arith, take, rules}
 use Rattle.level_script.specs.Forms.{written}
 use Rattle.level_script.proofs.Forming.{written_small, written_more}
-use Rattle.level_script.proofs.word.written.Goals as goal
+use Rattle.level_script.proofs.forms.written.Goals as goal
 
 pub overflow_mul-value : goal.overflow_mul-value
 overflow_mul-value c =

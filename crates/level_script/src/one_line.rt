@@ -3,20 +3,20 @@ ghost use Rattle.std.specs.Prelude.{◌≡◌, IsTrue};
 ghost use Rattle.std.specs.Str.{IsAscii};
 ghost use Rattle.level_script.specs.Lines.{line_words};
 ghost use Rattle.level_script.specs.Commands.{lane_command, of_lane, lane_line, class_line, field_line, collector_line, said_by_words};
-ghost use Rattle.level_script.specs.Context.{if_said, turn, Turns};
+ghost use Rattle.level_script.specs.Context.{if_said, after_line, Takes};
 
 use crate::cause::{Cause, Stop};
 use crate::command::{class_line, collector_line, field_line, read_does};
 use crate::context::Context;
+use crate::forms::{Number, is_comment, is_digits, read_number};
 use crate::lane_cmd::verb_of;
 use crate::lines::first_word;
 use crate::said::Said;
-use crate::word::{Number, is_comment, is_digits, read_number};
 
 impl Context {
-    // A line of a lane, from the word of its command on.
+    /// A line of a lane, from the word of its command on.
     fn command(&mut self, number: u32, lane: &Number, word: &[u8], rest: &[u8]) -> Result<(), Stop>
-        ensures { Turns (if_said number self.old (of_lane lane.now (lane_command word.now (line_words rest.now)))) self.new result }
+        ensures { Takes (if_said number self.old (of_lane lane.now (lane_command word.now (line_words rest.now)))) self.new result }
     {
         let Some(verb) = verb_of(word) else {
             return Err(Stop::Faulty(Cause::UnknownCommand));
@@ -27,8 +27,9 @@ impl Context {
         self.lane_line(number, lane, &does)
     }
 
+    /// A line of a lane, behind the lane's number.
     fn of_lane(&mut self, number: u32, lane: &Number, rest: &[u8]) -> Result<(), Stop>
-        ensures { Turns (if_said number self.old (lane_line lane.now (line_words rest.now))) self.new result }
+        ensures { Takes (if_said number self.old (lane_line lane.now (line_words rest.now))) self.new result }
     {
         let Some((word, rest)) = first_word(rest) else {
             return Err(Stop::Faulty(Cause::UnknownCommand));
@@ -36,9 +37,9 @@ impl Context {
         self.command(number, lane, word, rest)
     }
 
-    // Takes what was read of a line.
+    /// Takes what was read of a line.
     fn take(&mut self, number: u32, said: &Result<Said<'_>, Cause>) -> Result<(), Stop>
-        ensures { Turns (if_said number self.old said.now) self.new result }
+        ensures { Takes (if_said number self.old said.now) self.new result }
     {
         match said {
             Ok(said) => self.act(number, said),
@@ -46,29 +47,32 @@ impl Context {
         }
     }
 
+    /// A line that begins with `class`.
     fn of_class(&mut self, number: u32, rest: &[u8]) -> Result<(), Stop>
-        ensures { Turns (if_said number self.old (class_line self.old.in_header (line_words rest.now))) self.new result }
+        ensures { Takes (if_said number self.old (class_line self.old.in_header (line_words rest.now))) self.new result }
     {
         let in_header = self.is_in_header();
         self.take(number, &class_line(in_header, rest))
     }
 
+    /// A line that begins with `field`.
     fn of_field(&mut self, number: u32, rest: &[u8]) -> Result<(), Stop>
-        ensures { Turns (if_said number self.old (field_line self.old.in_header (line_words rest.now))) self.new result }
+        ensures { Takes (if_said number self.old (field_line self.old.in_header (line_words rest.now))) self.new result }
     {
         let in_header = self.is_in_header();
         self.take(number, &field_line(in_header, rest))
     }
 
+    /// A line that begins with `gc`.
     fn of_collector(&mut self, number: u32, rest: &[u8]) -> Result<(), Stop>
-        ensures { Turns (if_said number self.old (collector_line (line_words rest.now))) self.new result }
+        ensures { Takes (if_said number self.old (collector_line (line_words rest.now))) self.new result }
     {
         self.take(number, &collector_line(rest))
     }
 
-    // Each kind of line has a function of its own, which pays for its locals alone.
-    fn words(&mut self, number: u32, line: &[u8]) -> Result<(), Stop>
-        ensures { Turns (if_said number self.old (said_by_words self.old.in_header (line_words line.now))) self.new result }
+    /// Each kind of line has a function of its own, which pays for its locals alone.
+    fn take_text(&mut self, number: u32, line: &[u8]) -> Result<(), Stop>
+        ensures { Takes (if_said number self.old (said_by_words self.old.in_header (line_words line.now))) self.new result }
     {
         let Some((word, rest)) = first_word(line) else {
             return Ok(());
@@ -92,13 +96,13 @@ impl Context {
     /// said of the context.
     pub fn read(&mut self, number: u32, line: &[u8], is_ascii: bool) -> Result<(), Stop>
         requires { IsTrue is_ascii → IsAscii line.now }
-        ensures { Turns (turn number self.old line.now) self.new result }
+        ensures { Takes (after_line number self.old line.now) self.new result }
     {
         if is_ascii {
-            return self.words(number, line);
+            return self.take_text(number, line);
         }
         match str::from_utf8(line) {
-            Ok(_) => self.words(number, line),
+            Ok(_) => self.take_text(number, line),
             Err(_) => Err(Stop::Faulty(Cause::Utf8)),
         }
     }

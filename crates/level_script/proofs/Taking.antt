@@ -2,8 +2,8 @@
 use Rattle.std.proofs.Common.{◌≡◌, ℕ, ◌+◌, List, [], ◌∷◌, refl, sym, ap, ◌∙◌, length, Option, Some, None, Ok, Err, MatchOption}
 use Rattle.std.specs.Prelude.{slice_get, slice_set}
 use Rattle.level_script.specs.Lanes.{lane_step, lane_index, StepsAt}
-use Rattle.level_script.specs.Context.{lane_turn, lane_of, lane_at, with_lane, with_line}
-use Rattle.level_script.specs.Reading.{line_turn, read_from, read_on, fault_at, TurnsLine, ReadsLines}
+use Rattle.level_script.specs.Context.{after_lane_line, lane_of, lane_at, with_lane, with_line}
+use Rattle.level_script.specs.Reading.{after_numbered, read_from, read_on, fault_at, TakesLine, ReadsLines}
 use Rattle.level_script.specs.declared.cause.ParseErr.{ParseErr}
 use Rattle.level_script.specs.declared.cause.ParseErr.TheVariants as parse
 use Rattle.level_script.specs.declared.cause.Cause.{Cause}
@@ -27,7 +27,7 @@ at_ok number c index does new command (Some lane) (left, set, step) = ap (with_l
 -- a lane that has done what it says makes the line
 pub lane_ok : (number : ℕ) (c : Context) (lane : Option ℕ) (does : Does) (index : ℕ) (new : List LaneNames) (command : LaneCmd) →
     lane_index (length c.lanes) lane ≡ Some index → StepsAt c.classes.classes c.fields c.lanes index does new (Ok command) →
-    lane_turn number c lane does ≡ Ok (after_lane number c index new command)
+    after_lane_line number c lane does ≡ Ok (after_lane number c index new command)
 lane_ok number c lane does index new command found steps = ap (λ i. lane_of number c i does) found ∙ at_ok number c index does new command (slice_get c.lanes index) steps
 
 -- ---- lines after one another
@@ -38,17 +38,17 @@ unfolding read_from
 read_none number c = refl
 
 -- after a line that is read
-pub read_more : (number : ℕ) (c next : Context) (line : List ℕ) (lines : List (List ℕ)) → line_turn number c line ≡ Ok next → read_from number c (line ∷ lines) ≡ read_from (number + 1) next lines
+pub read_more : (number : ℕ) (c next : Context) (line : List ℕ) (lines : List (List ℕ)) → after_numbered number c line ≡ Ok next → read_from number c (line ∷ lines) ≡ read_from (number + 1) next lines
 unfolding read_from
 read_more number c next line lines e = ap (λ r. read_on number r (λ n. read_from (number + 1) n lines)) e
 
 -- at a line with a cause
-pub read_fault : (number : ℕ) (c : Context) (line : List ℕ) (lines : List (List ℕ)) (why : Cause) → line_turn number c line ≡ Err why → read_from number c (line ∷ lines) ≡ Err (fault_at number why)
+pub read_fault : (number : ℕ) (c : Context) (line : List ℕ) (lines : List (List ℕ)) (why : Cause) → after_numbered number c line ≡ Err why → read_from number c (line ∷ lines) ≡ Err (fault_at number why)
 unfolding read_from
 read_fault number c line lines why e = ap (λ r. read_on number r (λ n. read_from (number + 1) n lines)) e
 
 -- a fault of the first line is that of the lines
 pub reads_err : (A : Type 0) (number : ℕ) (c : Context) (line : List ℕ) (lines : List (List ℕ)) (new left : Context) (error : ParseErr)
-    → TurnsLine {A = A} (line_turn number c line) number new (Err error) → ReadsLines {A = A} (read_from number c (line ∷ lines)) left (Err error)
+    → TakesLine {A = A} (after_numbered number c line) number new (Err error) → ReadsLines {A = A} (read_from number c (line ∷ lines)) left (Err error)
 reads_err A number c line lines new left (parse.Bad fault) (why, e, is) = read_fault number c line lines why e ∙ ap Err (sym is)
 reads_err A number c line lines new left parse.Memory h = tt
