@@ -45,7 +45,7 @@ same_pass_true Collector (Marker b) h = absurd cc
 -- ---- while a frame or slice is open
 
 -- the first unit with a name is the same when more units stand behind
-find_front : {A : Type 0} (p : A → Bool) (xs ys : List A) → list_any p xs ≡ true → find p (xs ++ ys) ≡ find p xs
+pub find_front : {A : Type 0} (p : A → Bool) (xs ys : List A) → list_any p xs ≡ true → find p (xs ++ ys) ≡ find p xs
 find_front p [] ys h = absurd cc
 find_front p (x ∷ xs) ys h = go (p x) refl h (find_front p xs ys)
   where
@@ -141,13 +141,13 @@ units_never_join_holds z before more legal n m lives h =
     start : Legal z before
     start = ((histories_join.legal z before more).0 legal).0
 
-no_start : (z : Sizes) (s : State) (p : Pass) (a : Act) (q : Pass) → MayBy z s p a → is_open s.world q ≡ true → is_start a ≡ false
+pub no_start : (z : Sizes) (s : State) (p : Pass) (a : Act) (q : Pass) → MayBy z s p a → is_open s.world q ≡ true → is_start a ≡ false
 no_start z s Collector (act.BeginGc begin.Started) q may h = absurd (not_open s.world q h may.may.1)
 no_start z s (Lane lane) (act.BeginGc begin.Started) q may h = absurd may.may
 no_start z s (Marker marker) (act.BeginGc begin.Started) q may h = absurd may.may
 no_start z s p _ q may h = refl
 
-no_commit : (z : Sizes) (s : State) (p : Pass) (a : Act) (q : Pass) → MayBy z s p a → is_open s.world q ≡ true → is_done a ≡ false
+pub no_commit : (z : Sizes) (s : State) (p : Pass) (a : Act) (q : Pass) → MayBy z s p a → is_open s.world q ≡ true → is_done a ≡ false
 no_commit z s Collector (act.CommitGc commit.Done) q may h = absurd (not_open s.world q h may.may.closed)
 no_commit z s (Lane lane) (act.CommitGc commit.Done) q may h = absurd may.may
 no_commit z s (Marker marker) (act.CommitGc commit.Done) q may h = absurd may.may
@@ -385,7 +385,7 @@ open_once_next z s p (act.CommitGc commit.Done) may h = h
 open_once_next z s p _ may h = h
 
 -- what does not pass, and what does
-length_parts : {A : Type 0} (q : A → Bool) (xs : List A) → length (filter (λ x. not (q x)) xs) + count_by q xs ≡ length xs
+pub length_parts : {A : Type 0} (q : A → Bool) (xs : List A) → length (filter (λ x. not (q x)) xs) + count_by q xs ≡ length xs
 length_parts q [] = refl
 length_parts q (x ∷ xs) = go (q x) refl (length_parts q xs) (count-cons q x xs)
   where

@@ -42,3 +42,7 @@ pub mod Apart
 pub mod Sharp
 pub mod Edges
 pub mod Partings
+pub mod Standings
+pub mod Staying
+pub mod Opened
+pub mod Leaving

@@ -46,7 +46,7 @@ pub record ArePairs (z : Sizes) (w : World) : Type 0 where
   pub by_name : (p q : Pair) → Among w.pairs p → Among w.pairs q → p.name ≡ q.name → p ≡ q
 
 -- the pair that an object has
-pair_found : (w : World) (n : Name) (weak : Weak) → pair_of w n ≡ Some weak → (p : Pair) × Among w.pairs p × (p.name ≡ n) × (p.weak ≡ weak)
+pub pair_found : (w : World) (n : Name) (weak : Weak) → pair_of w n ≡ Some weak → (p : Pair) × Among w.pairs p × (p.name ≡ n) × (p.weak ≡ weak)
 pair_found w n weak e = go (find (λ p. same_name n p.name) w.pairs) refl e
   where
     go : (o : Option Pair) → find (λ p. same_name n p.name) w.pairs ≡ o → option_map (λ (p : Pair). p.weak) o ≡ Some weak → (p : Pair) × Among w.pairs p × (p.name ≡ n) × (p.weak ≡ weak)

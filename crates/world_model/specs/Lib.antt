@@ -28,6 +28,7 @@ pub mod Engines
 -- laws, and histories that are legal or refused
 pub mod Laws
 pub mod Follows
+pub mod Stays
 pub mod Examples
 pub mod Edges
 pub mod Partings

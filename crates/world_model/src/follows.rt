@@ -17,6 +17,9 @@ ghost use Rattle.world_model.specs.Follows.{MarksChangeNothing, GarbageDecidesNo
 ghost use Rattle.world_model.specs.Follows.{TakenApart, DissolvesUnit, DissolveAnswers, StaysAlone, CollectedSingly};
 ghost use Rattle.world_model.specs.Follows.{OpenKeeps, OwnStays, OwnJoins, FewOpen};
 ghost use Rattle.world_model.specs.Follows.{QuotasHold, CensusAddsUp, NamesOnce, SerialsOnce};
+ghost use Rattle.world_model.specs.Stays.{NamedFromPlaces, OnlyOfMade, BegunBehindGathering, MomentsEndNow};
+ghost use Rattle.world_model.specs.Stays.{KindsStay, MarkedStays, MarkingLasts, OwedInMarking, ParityTurns, ParityStays};
+ghost use Rattle.world_model.specs.Stays.{CollectorsStay, MarkersStay};
 ghost use Rattle.world_model.specs.Follows.{RefusalsChangeNothing, CallsEnd, BeginIsDecided, CommitIsDecided, CreateIsDecided};
 
 /// A collection removes only whole units that no root reaches, each object is begun at most once
@@ -364,4 +367,74 @@ pub fn commit_is_decided()
 /// Whether objects of these kinds are made, and why not, is decided by the world.
 pub fn create_is_decided()
     ensures { CreateIsDecided }
+{}
+
+// ---- where something stands
+
+/// What names an object is a reference cell of an object that was made, within the reference slots of
+/// its kind, or a strong pointer of the shape.
+pub fn named_from_places()
+    ensures { NamedFromPlaces }
+{}
+
+/// What was not made has no number in a plain cell, no pair and no note, and no commit removed it.
+pub fn only_of_made()
+    ensures { OnlyOfMade }
+{}
+
+/// While the removed objects are being found none of them is begun, and none was asked.
+pub fn begun_behind_gathering()
+    ensures { BegunBehindGathering }
+{}
+
+/// The newest moment of an open slice is the world now, and so is that of a collection that marks.
+pub fn moments_end_now()
+    ensures { MomentsEndNow }
+{}
+
+// ---- what stays
+
+/// An object that was made keeps its kind, also when it is removed and released.
+pub fn kinds_stay()
+    ensures { KindsStay }
+{}
+
+/// What is marked stays marked until a collection starts.
+pub fn marked_stays()
+    ensures { MarkedStays }
+{}
+
+/// A collection marks until it commits, and meanwhile no unit is taken apart.
+pub fn marking_lasts()
+    ensures { MarkingLasts }
+{}
+
+/// What a lane owes it owes in its open frame, and while a collection marks.
+pub fn owed_in_marking()
+    ensures { OwedInMarking }
+{}
+
+/// The parity of a history turns with each collection that starts, and with nothing else.
+pub fn parity_turns()
+    ensures { ParityTurns }
+{}
+
+/// The parity stays while no collection starts: so while others than the collector act, and while a frame
+/// or a slice is open.
+pub fn parity_stays()
+    ensures { ParityStays }
+{}
+
+// ---- what others leave
+
+/// Entries of lanes and markers leave the phase, the removed objects and how far they are found and
+/// destroyed, and what the collector has under way.
+pub fn collectors_stay()
+    ensures { CollectorsStay }
+{}
+
+/// Entries of others leave a marker whether its slice is open, the units that it has scanned, and the
+/// moments that it has seen.
+pub fn markers_stay()
+    ensures { MarkersStay }
 {}
