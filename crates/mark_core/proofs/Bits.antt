@@ -7,7 +7,7 @@ use Rattle.std.proofs.lemmas.Nat.Bits.{bit_at_or, bit_at_and, bit_at-pow_same, b
 use Rattle.word_layout.specs.Values.{bit}
 use Rattle.word_layout.specs.Changes.{ClearsBit}
 use Rattle.word_layout.proofs.Changing.{bits_change}
-use Rattle.mark_core.specs.Words.{bits_word, BitsAreShown, BitsFollow}
+use Rattle.mark_core.specs.Words.{bits_word, BitsFollow}
 
 pub bits-suc : (f : ℕ → Bool) (n : ℕ) → bits_word f (suc n) ≡ bits_word f n + bit (f n) * 2 ^ n
 unfolding bits_word
@@ -32,7 +32,7 @@ bit_of : (b : Bool) → bit_at (bit b) 0 ≡ bit b
 bit_of true = refl
 bit_of false = refl
 
-bit_in : (f : ℕ → Bool) (n i : ℕ) → i < n → bit_at (bits_word f n) i ≡ bit (f i)
+pub bit_in : (f : ℕ → Bool) (n i : ℕ) → i < n → bit_at (bits_word f n) i ≡ bit (f i)
 bit_in f zero i lt = absurd (omega (arith, lt))
 bit_in f (suc n) i lt = go (eqb i n) refl (bit_in f n i)
   where
@@ -52,8 +52,16 @@ bit_in f (suc n) i lt = go (eqb i n) refl (bit_in f n i)
         let low : i < n = omega (arith, lt, off) in
         ap (λ (x : ℕ). bit_at x i) turned ∙ (bit_at_cat_low (bit (f n)) n (bits_word f n) i low ∙ before low)
 
+-- a word is told by its bits
+pub word_same : (f g : ℕ → Bool) (n : ℕ) → ((i : ℕ) → i < n → f i ≡ g i) → bits_word f n ≡ bits_word g n
+word_same f g n same = same_from_bits (bits_word f n) (bits_word g n) (λ i. go i (nat_lt i n) refl)
+  where
+    go : (i : ℕ) (b : Bool) → nat_lt i n ≡ b → bit_at (bits_word f n) i ≡ bit_at (bits_word g n) i
+    go i true e = let lt : i < n = search rules in bit_in f n i lt ∙ (ap bit (same i lt) ∙ sym (bit_in g n i lt))
+    go i false e = let far : n ≤ i = search rules in bit_at_above (bits_word f n) n i (bits-below f n) far ∙ sym (bit_at_above (bits_word g n) n i (bits-below g n) far)
+
 -- one bit is set
-word_put : (f g : ℕ → Bool) (n k : ℕ) → k < n → g k ≡ true → ((i : ℕ) → i ≢ k → g i ≡ f i) → bits_word g n ≡ bit_or (bits_word f n) (2 ^ k)
+pub word_put : (f g : ℕ → Bool) (n k : ℕ) → k < n → g k ≡ true → ((i : ℕ) → i ≢ k → g i ≡ f i) → bits_word g n ≡ bit_or (bits_word f n) (2 ^ k)
 word_put f g n k low here other = same_from_bits (bits_word g n) (bit_or (bits_word f n) (2 ^ k)) (λ i. go i (nat_lt i n) refl (eqb i k) refl)
   where
     with_one : (b : Bool) → max (bit b) 1 ≡ 1
@@ -94,7 +102,7 @@ word_put f g n k low here other = same_from_bits (bits_word g n) (bit_or (bits_w
         ∙ ap (max 0) (bit_at-pow_other k i off)))
 
 -- one bit is cleared
-word_cut : (f g : ℕ → Bool) (k : ℕ) → k < 64 → g k ≡ false → ((i : ℕ) → i ≢ k → g i ≡ f i) → bits_word g 64 ≡ bit_and (bits_word f 64) (bit_not w64 (2 ^ k))
+pub word_cut : (f g : ℕ → Bool) (k : ℕ) → k < 64 → g k ≡ false → ((i : ℕ) → i ≢ k → g i ≡ f i) → bits_word g 64 ≡ bit_and (bits_word f 64) (bit_not w64 (2 ^ k))
 word_cut f g k low here other = same_from_bits (bits_word g 64) (bit_and (bits_word f 64) (bit_not w64 (2 ^ k))) (λ i. go i (nat_lt i 64) refl (eqb i k) refl)
   where
     change : ClearsBit (bits_word f 64) k
@@ -117,7 +125,7 @@ word_cut f g k low here other = same_from_bits (bits_word g 64) (bit_and (bits_w
         (bit_at_and (bits_word f 64) (bit_not w64 (2 ^ k)) i ∙ (ap (λ (x : ℕ). min x (bit_at (bit_not w64 (2 ^ k)) i)) none_f ∙ omega arith))
 
 -- a word is zero exactly with no bits
-zero_bits : (f : ℕ → Bool) (n : ℕ) → bits_word f n ≡ 0 → (i : ℕ) → i < n → f i ≡ false
+pub zero_bits : (f : ℕ → Bool) (n : ℕ) → bits_word f n ≡ 0 → (i : ℕ) → i < n → f i ≡ false
 zero_bits f n none i lt = go (f i) refl
   where
     go : (b : Bool) → f i ≡ b → b ≡ false
@@ -126,19 +134,16 @@ zero_bits f n none i lt = go (f i) refl
         absurd (omega (arith, one, zero_at))
     go false e = refl
 
-bits_empty : (f : ℕ → Bool) → bits_word f 0 ≡ 0
+pub bits_empty : (f : ℕ → Bool) → bits_word f 0 ≡ 0
 unfolding bits_word
 bits_empty f = refl
 
-no_bits : (f : ℕ → Bool) (n : ℕ) → ((i : ℕ) → i < n → f i ≡ false) → bits_word f n ≡ 0
+pub no_bits : (f : ℕ → Bool) (n : ℕ) → ((i : ℕ) → i < n → f i ≡ false) → bits_word f n ≡ 0
 no_bits f zero off = bits_empty f
 no_bits f (suc n) off = let rest = no_bits f n (λ i lt. off i (omega (arith, lt))) in
     let step = bits-suc f n in
     let last : bit (f n) ≡ 0 = ap bit (off n (omega arith)) in
     bits-suc f n ∙ (ap (λ (x : ℕ). x + bit (f n) * 2 ^ n) rest ∙ (ap (λ (x : ℕ). 0 + x * 2 ^ n) last ∙ omega arith))
-
-pub bits_are_shown : BitsAreShown
-bits_are_shown f n = record { below = bits-below f n; each = bit_in f n; none = (zero_bits f n, no_bits f n) }
 
 pub bits_follow : BitsFollow
 bits_follow f g k lt others = record { set = λ on. word_put f g 64 k lt on others; cleared = λ off. word_cut f g k lt off others }

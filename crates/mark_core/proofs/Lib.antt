@@ -22,6 +22,7 @@ pub mod Ranges
 pub mod Cursors
 pub mod Made
 pub mod Bits
+pub mod Ones
 pub mod Runs
 pub mod Frames
 pub mod Stuck

@@ -1,12 +1,12 @@
 -- The words that the machine shows: gate and heads in the layouts of a heap in atomic words, cells by the units alone.
-use Rattle.std.specs.Prelude.{◌≡◌, ◌≢◌, ℕ, ◌+◌, ◌*◌, ◌/◌, ◌^◌, ◌<◌, ◌↔◌, zero, suc, nat_lt, Bool, true, false, ◌&&◌, not, if◌then◌else◌, Option, Some, None, is_some, bit_and, bit_or}
+use Rattle.std.specs.Prelude.{◌≡◌, ◌≢◌, ℕ, ◌+◌, ◌*◌, ◌/◌, ◌^◌, ◌<◌, ◌↔◌, zero, suc, nat_lt, Bool, true, false, ◌&&◌, not, if◌then◌else◌, Option, Some, None, is_some, bit_and, bit_or, count_ones}
 use Rattle.std.specs.Int.{bit_at, bit_not, w64}
 use Rattle.word_layout.specs.declared.gate.Gate.{Gate}
 use Rattle.word_layout.specs.declared.head.Head.{Head}
 use Rattle.word_layout.specs.declared.head.Life.TheVariants as life
 use Rattle.word_layout.specs.Values as values
 use Rattle.word_layout.specs.Values.{bit}
-use Rattle.mark_core.specs.Machine.{Cell, CellOf, StrongOf, Place, Sizes, strong_place, Core, row_bit, frames}
+use Rattle.mark_core.specs.Machine.{Cell, CellOf, StrongOf, Place, Sizes, strong_place, Core, row_bit, frames, count_below}
 use Rattle.mark_core.specs.Steps.{Step, Shade, SwapCell, LoadCell, AddRow, TakeRow, LoadRow, LoadHead, DoomHead, RootBit}
 
 -- the gate
@@ -68,11 +68,12 @@ old_word z c _ = gate_word z c
 
 -- ---- laws
 
--- a word of bits has each of them at its place, and no other
+-- a word of bits has each of them at its place, and no other, and as many ones as there are
 pub record ShowsBits (f : ℕ → Bool) (n : ℕ) : Type 0 where
   pub below : bits_word f n < 2 ^ n
   pub each : (i : ℕ) → i < n → bit_at (bits_word f n) i ≡ bit (f i)
   pub none : (bits_word f n ≡ 0) ↔ ((i : ℕ) → i < n → f i ≡ false)
+  pub ones : count_ones (bits_word f n) ≡ count_below f n
 
 -- where one bit is set or cleared the word follows by one atomic step
 pub record FollowsBit (f g : ℕ → Bool) (k : ℕ) : Type 0 where

@@ -81,8 +81,8 @@ pub fn gatherings_can_end()
     ensures { GatheringsCanEnd }
 {}
 
-/// A word of a row or of the root set has the bit of each of its units at its place, no other, and is zero
-/// exactly where none is set.
+/// A word of a row or of the root set has the bit of each of its units at its place and no other, as many ones as
+/// there are, and is zero exactly where none is set.
 pub fn bits_are_shown()
     ensures { BitsAreShown }
 {}

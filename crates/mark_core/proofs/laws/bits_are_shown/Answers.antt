@@ -1,4 +1,4 @@
-use Rattle.mark_core.proofs.Bits.{bits_are_shown}
+use Rattle.mark_core.proofs.Ones.{bits_are_shown}
 use Rattle.mark_core.proofs.laws.bits_are_shown.Goals as goal
 
 pub returns : goal.returns
