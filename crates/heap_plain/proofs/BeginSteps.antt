@@ -23,19 +23,21 @@ use Rattle.world_model.proofs.Removals.{named_lives_holds}
 use Rattle.heap_plain.specs.Types.{Name, Kind, Phase, Idle, Marking, Gathering, Begin, Collector, Entry}
 use Rattle.heap_plain.specs.Types.act
 use Rattle.heap_plain.specs.Types.begin
-use Rattle.heap_plain.specs.Parts.{Parts, Objects, name_at, first_at}
+use Rattle.heap_plain.specs.Parts.{Parts, Objects, name_at, first_at, target_at}
 use Rattle.heap_plain.specs.Painted.{Painted, greyed, all_greyed}
 use Rattle.heap_plain.specs.Notes.{MayStart, starts, names_at}
-use Rattle.heap_plain.specs.Shading.{InRoots, CanShade, Shades}
+use Rattle.heap_plain.specs.Shading.{InRoots, CanShade, Shades, InStrong}
 use Rattle.heap_plain.specs.Units.{NamesShow, UnitsShow, StandsAt, LivesAt}
-use Rattle.heap_plain.specs.Roots.{RootsShow, rooted_at}
+use Rattle.heap_plain.specs.Roots.{RootsShow, StrongShow, rooted_at}
 use Rattle.heap_plain.specs.Colouring.{MarksShow}
 use Rattle.heap_plain.specs.Destroying.{RemovedShow, count_left}
 use Rattle.heap_plain.specs.Plain.{ShowsWorld, Shows, IsPlain}
 use Rattle.heap_plain.proofs.Entries.{Done, does}
 use Rattle.heap_plain.proofs.Standing.{member_at, bit_below, name_below, lives_at}
 use Rattle.heap_plain.proofs.MarkSteps.{mark_one}
-use Rattle.heap_plain.proofs.Shadings.{shades_len}
+use Rattle.heap_plain.proofs.Cells.{aims_target}
+use Rattle.heap_plain.proofs.Pointers.{strong_target}
+use Rattle.heap_plain.proofs.Shadings.{shades_len, shades_join}
 use Rattle.world_model.proofs.Quiet.{any_none}
 
 -- ---- refusals
@@ -100,7 +102,7 @@ pub record KeepRun (z : Sizes) (o : Objects) (c : Painted) (s : State) (of : Lis
 
 -- the object behind a root bit
 root_at : {z : Sizes} {o : Objects} {kinds : ℕ → List Kind} {units : List (List Name)} {roots : List Bool} {rooted : Name → Bool}
-    {strong : ℕ → ℕ → Option Name} → NamesShow z o.names kinds → UnitsShow z o units → RootsShow z o.names roots rooted strong
+    → NamesShow z o.names kinds → UnitsShow z o units → RootsShow z o.names roots rooted
     → ((n : Name) → rooted n ≡ true → list_any (λ u. has u n) units ≡ true) → (i : ℕ) → get_or roots i false ≡ true → (n : Name) × LivesAt o.names o.lives i n × (rooted n ≡ true)
 root_at {o = o} {roots = roots} {rooted = rooted} ns us rs living i e = go (name_at o.names i) refl
   where
@@ -115,22 +117,42 @@ root_at {o = o} {roots = roots} {rooted = rooted} ns us rs living i e = go (name
         let same : j.0 ≡ i = ns.alone j.0 i n j.1.name at in
         (n, subst (λ (k : ℕ). LivesAt o.names o.lives k n) same j.1, is)
 
-pub keep_run : (z : Sizes) (o : Objects) (roots : List Bool) (s : State) (earlier : List World) (c : Painted) (heads : List ℕ) (count : ℕ)
+-- which indexes the root set holds: those with a root bit, and those of strong pointers
+abbrev pub InRootSet : Sizes → List Bool → List (Option ℕ) → ℕ → Type 0
+InRootSet z roots strong t = InRoots roots (length roots) t ⊎ InStrong strong z.strong z.lanes t
+
+-- first the root bits are looked at, and then the strong pointers
+pub root_set_shaded : (z : Sizes) (roots : List Bool) (strong : List (Option ℕ)) {names : List (Option Name)} {firsts : List ℕ} {c mid c' : Painted} {old between new : List Entry}
+    → Shades names firsts (InRoots roots (length roots)) Collector c mid old between → Shades names firsts (InStrong strong z.strong z.lanes) Collector mid c' between new
+    → Shades names firsts (InRootSet z roots strong) Collector c c' old new
+root_set_shaded z roots strong a b = shades_join (λ t h. inl h) (λ t h. inr h) (λ t h. h) a b
+
+-- the object at such an index is in the root set
+pub in_root_set : {z : Sizes} {o : Objects} {kinds : ℕ → List Kind} {units : List (List Name)} {roots : List Bool} {strong : List (Option ℕ)}
+    {rooted : Name → Bool} {held : ℕ → ℕ → Option Name} → NamesShow z o.names kinds → UnitsShow z o units → RootsShow z o.names roots rooted
+    → StrongShow z o.names o.lives strong held → ((n : Name) → rooted n ≡ true → list_any (λ u. has u n) units ≡ true)
+    → (i : ℕ) → InRootSet z roots strong i → (n : Name) × LivesAt o.names o.lives i n × ((rooted n ≡ true) ⊎ ((lane : ℕ) × (number : ℕ) × (held lane number ≡ Some n)))
+in_root_set ns us rs ss living i (inl r) = let root = root_at ns us rs living i r.1 in (root.0, root.1, inl root.2)
+in_root_set {z} {strong = strong} {held = held} ns us rs ss living i (inr (lane, number, a, b, e)) =
+    let r = aims_target (target_at z.strong strong lane number) (held lane number) i (ss.aims lane number a b) e in
+    (r.0, r.2, inr (lane, number, r.1))
+
+pub keep_run : (z : Sizes) (o : Objects) (roots : List Bool) (strong : List (Option ℕ)) (s : State) (earlier : List World) (c : Painted) (heads : List ℕ)
     → AreApart s.world.kinds s.world.units → NamesShow z o.names s.world.kinds → UnitsShow z o s.world.units
-    → RootsShow z o.names roots s.world.rooted s.world.strong → ((n : Name) → s.world.rooted n ≡ true → in_world s.world n ≡ true)
+    → RootsShow z o.names roots s.world.rooted → StrongShow z o.names o.lives strong s.world.strong → ((n : Name) → s.world.rooted n ≡ true → in_world s.world n ≡ true)
     → s.world.phase ≡ Marking → s.collector.started ≡ true → s.collector.agreed ≡ None → s.marks.moments ≡ s.world ∷ earlier → s.marks.scanned ≡ [] → length c.marked ≡ item_count z
-    → MarksShow o s.world.units c s.marks.kept s.marks.fresh s.marks.scanned → CanShade o.firsts (InRoots roots count) c.marked heads
+    → MarksShow o s.world.units c s.marks.kept s.marks.fresh s.marks.scanned → CanShade o.firsts (InRootSet z roots strong) c.marked heads
     → KeepRun z o (all_greyed c heads) s (names_at o.names heads)
-keep_run z o roots s earlier c [] count apart ns us rs living marking started agreed moments black len marks can = record {
+keep_run z o roots strong s earlier c [] apart ns us rs ss living marking started agreed moments black len marks can = record {
   legal = tt;
   world = refl;
   asked = refl;
   marks = marks;
   roots = tt;
 }
-keep_run z o roots s earlier c (head ∷ heads) count apart ns us rs living marking started agreed moments black len marks can =
+keep_run z o roots strong s earlier c (head ∷ heads) apart ns us rs ss living marking started agreed moments black len marks can =
     let r = can.0 in
-    let root = root_at ns us rs living r.0 r.1.1 in
+    let root = in_root_set ns us rs ss living r.0 r.1 in
     let unit = us.each r.0 root.1.life in
     let u = unit.0 in
     let stands : StandsAt o s.world.units head u = subst (λ (x : ℕ). StandsAt o s.world.units x u) r.2 unit.1 in
@@ -140,8 +162,8 @@ keep_run z o roots s earlier c (head ∷ heads) count apart ns us rs living mark
     let inside : head < length c.marked = omega (arith, subst (λ (x : ℕ). x < item_count z) r.2 (us.in_range r.0)) in
     let unit_is : unit_of s.world n ≡ u = own_unit s.world apart u n stands.among member.2 in
     let has_root : has u root.0 ≡ true = stands.whole r.0 root.0 root.1 r.2 in
-    let is_root : IsRootUnit (graph s.world) (unit_of s.world n) = subst (λ (v : List Name). IsRootUnit (graph s.world) v) (sym unit_is) (root.0, has_root, inl root.2) in
-    let rest = keep_run z o roots (next s entry) s.marks.moments (greyed c head) heads count apart ns us rs living marking started refl refl black
+    let is_root : IsRootUnit (graph s.world) (unit_of s.world n) = subst (λ (v : List Name). IsRootUnit (graph s.world) v) (sym unit_is) (root.0, has_root, root.2) in
+    let rest = keep_run z o roots strong (next s entry) s.marks.moments (greyed c head) heads apart ns us rs ss living marking started refl refl black
     (length-set c.marked head true ∙ len)
     (mark_one ns us apart head u n stands member.2 can.1 inside
     (λ e. absurd (any_none u (subst (λ (ns : List Name). list_any (has ns) u ≡ true) black e))) marks) can.2 in
@@ -184,7 +206,7 @@ unmarked o units n = record {
 
 module _ {z : Sizes} {p : Parts} {h new : List Entry} {c : Painted} (was : IsPlain z p h)
     (open_none : count_by (λ is_open. is_open) p.frames ≡ 0) (idle : p.phase ≡ Idle) (none_left : p.left ≡ 0)
-    (sh : Shades p.names p.firsts (InRoots p.roots (length p.roots)) Collector (unpainted (length p.marked)) c (h ++ record { pass = Collector; act = act.BeginGc begin.Started } ∷ []) new) where
+    (sh : Shades p.names p.firsts (InRootSet z p.roots p.strong) Collector (unpainted (length p.marked)) c (h ++ record { pass = Collector; act = act.BeginGc begin.Started } ∷ []) new) where
   abbrev s : Shows z p (state_of h)
   s = was.shows
 
@@ -208,7 +230,7 @@ module _ {z : Sizes} {p : Parts} {h new : List Entry} {c : Painted} (was : IsPla
 
   ran : KeepRun z p.objects (all_greyed (unpainted (length p.marked)) heads) s1 of
   ran =
-      keep_run z p.objects p.roots s1 [] (unpainted (length p.marked)) heads (length p.roots) (units_apart z h was.legal) s.names s.units s.roots
+      keep_run z p.objects p.roots p.strong s1 [] (unpainted (length p.marked)) heads (units_apart z h was.legal) s.names s.units s.roots s.strong
       (named_lives_holds z h was.legal).rooted refl refl refl refl refl (length-replicate (length p.marked) false ∙ s.marked_len)
       (unmarked p.objects (after h).units (length p.marked)) sh.can
 
@@ -242,6 +264,8 @@ module _ {z : Sizes} {p : Parts} {h new : List Entry} {c : Painted} (was : IsPla
     rows = s.rows;
     roots = s.roots;
     garbage = s.garbage;
+    strong = s.strong;
+    pairs = s.pairs;
     colours = record {
       marked_len = shades_len sh ∙ length-replicate (length p.marked) false ∙ s.marked_len;
       idle = λ ne. absurd (ne refl);
@@ -254,22 +278,31 @@ module _ {z : Sizes} {p : Parts} {h new : List Entry} {c : Painted} (was : IsPla
   whole : new ≡ h ++ started_entry ∷ notes
   whole = sh.entries ∙ append_assoc h (started_entry ∷ []) notes
 
+  -- the unit of an object of the root set is marked
+  kept_unit : (j : ℕ) (at : ℕ) (u : List Name) → StandsAt p.objects (after h).units at u → first_at p.firsts j ≡ at → InRootSet z p.roots p.strong j → list_any (has u) of ≡ true
+  kept_unit j at u stands is root =
+      let set_now : get_or (all_greyed (unpainted (length p.marked)) heads).marked at false ≡ true =
+      ap (λ (x : Painted). get_or x.marked at false) (sym sh.colours) ∙ ap (λ (x : ℕ). get_or c.marked x false) (sym is) ∙ sh.each j root in
+      let member = member_at s.units at u stands in
+      among_test (has u) of member.0 (among_names_at p.names heads at member.0 (listed at (set_among (unpainted (length p.marked)) heads at set_now)) member.1.name) member.2
+    where
+      listed : (x : ℕ) → (get_or (replicate (length p.marked) false) x false ≡ true) ⊎ Among heads x → Among heads x
+      listed x (inl e) = absurd (let t = none_marked (length p.marked) x in cc)
+      listed x (inr a) = a
+
   each_root : (u : List Name) → IsUnit (graph (after h)) u → IsRootUnit (graph (after h)) u → list_any (has u) of ≡ true
   each_root u unit (r, has_r, inl rooted) =
       let at = s.units.all u (contains_among (after h).units u unit) in
       let j = at.1.inside r has_r in
       let below : j.0 < item_count z = omega (arith, name_below p.names j.0 r j.1.name, s.names.items) in
       let bit : get_or p.roots j.0 false ≡ true = s.roots.bits.each j.0 false below ∙ ap (rooted_at (after h).rooted) j.1.name ∙ rooted in
-      let set_now : get_or (all_greyed (unpainted (length p.marked)) heads).marked at.0 false ≡ true =
-      ap (λ (x : Painted). get_or x.marked at.0 false) (sym sh.colours) ∙ ap (λ (x : ℕ). get_or c.marked x false) (sym j.2)
-      ∙ sh.each j.0 (omega (arith, s.roots.bits.len), bit) in
-      let member = member_at s.units at.0 u at.1 in
-      among_test (has u) of member.0 (among_names_at p.names heads at.0 member.0 (listed at.0 (set_among (unpainted (length p.marked)) heads at.0 set_now)) member.1.name) member.2
-    where
-      listed : (x : ℕ) → (get_or (replicate (length p.marked) false) x false ≡ true) ⊎ Among heads x → Among heads x
-      listed x (inl e) = absurd (let t = none_marked (length p.marked) x in cc)
-      listed x (inr a) = a
-  each_root u unit (r, has_r, inr (lane, number, is)) = absurd (let none = s.roots.no_strong lane number in cc)
+      kept_unit j.0 at.0 u at.1 j.2 (inl (omega (arith, s.roots.bits.len), bit))
+  each_root u unit (r, has_r, inr (lane, number, is)) =
+      let at = s.units.all u (contains_among (after h).units u unit) in
+      let j = at.1.inside r has_r in
+      let named = strong_target s.strong lane number r is in
+      let same : named.2.0 ≡ j.0 = s.names.alone named.2.0 j.0 r named.2.2.name j.1.name in
+      kept_unit named.2.0 at.0 u at.1 (ap (first_at p.firsts) same ∙ j.2) (inr (lane, number, named.0, named.1, named.2.1))
 
   pub started : Done z q h new Collector (act.BeginGc begin.Started)
   started = subst (λ (es : List Entry). Done z q h es Collector (act.BeginGc begin.Started)) (sym whole)
@@ -286,11 +319,18 @@ start_facts phase left opened (begin.Running at) m e = absurd cc
 start_facts phase left opened (begin.Purging n) m e = absurd cc
 start_facts phase left opened (begin.Frames n) m e = absurd cc
 
--- there is a name at the head of a rooted object's unit
-pub head_named : {z : Sizes} {p : Parts} {h : List Entry} → IsPlain z p h → (i : ℕ) → get_or p.roots i false ≡ true → IsSome (name_at p.names (first_at p.firsts i))
-head_named {z} {p} {h} was i e =
+-- there is a name at the head of the unit of an object of the root set
+pub head_named : {z : Sizes} {p : Parts} {h : List Entry} → IsPlain z p h → (i : ℕ) → InRootSet z p.roots p.strong i → IsSome (name_at p.names (first_at p.firsts i))
+head_named {z} {p} {h} was i r =
     let s = was.shows in
-    let root = root_at s.names s.units s.roots (named_lives_holds z h was.legal).rooted i e in
+    let root = in_root_set s.names s.units s.roots s.strong (named_lives_holds z h was.legal).rooted i r in
     let unit = s.units.each i root.1.life in
     let member = member_at s.units (first_at p.firsts i) unit.0 unit.1 in
     ap (λ (o : Option Name). is_some o) member.1.name
+
+-- a strong pointer holds an index
+pub strong_below : {z : Sizes} {p : Parts} {h : List Entry} → IsPlain z p h → (t : ℕ) → InStrong p.strong z.strong z.lanes t → t < item_count z
+strong_below {z} {p} {h} was t (lane, number, a, b, e) =
+    let s = was.shows in
+    let r = aims_target (target_at z.strong p.strong lane number) ((after h).strong lane number) t (s.strong.aims lane number a b) e in
+    omega (arith, name_below p.names t r.0 r.2.name, s.names.items)

@@ -15,14 +15,15 @@ use Rattle.heap_plain.specs.declared.life.Life.TheVariants.{Free, Live}
 use Rattle.heap_plain.specs.Parts.{Parts, Lists, name_at, life_at, no_kind, target_at, is_gone}
 use Rattle.heap_plain.specs.Stocked.{Stocked, no_stock, rising, full_stocks}
 use Rattle.heap_plain.specs.Roots.{rooted_at}
+use Rattle.heap_plain.specs.Cells.{Aims}
 use Rattle.heap_plain.specs.Stocking.{LaneShows, FreeShows}
 use Rattle.heap_plain.specs.Destroying.{gone_world}
 use Rattle.heap_plain.specs.Plain.{IsPlain}
 use Rattle.heap_plain.proofs.Picking.{length-rising, rising_range, range_rising, rising_once}
 
 -- the vectors of a new heap
-abbrev pub new_parts : ℕ → ℕ → ℕ → Parts
-new_parts lanes quota slots = record {
+abbrev pub new_parts : ℕ → ℕ → ℕ → ℕ → Parts
+new_parts lanes quota slots each = record {
   gate = record { phase = Idle; frames = replicate lanes false };
   objects =
       record {
@@ -35,6 +36,8 @@ new_parts lanes quota slots = record {
   rows = record { kinds = replicate (lanes * quota) no_kind; targets = replicate (lanes * quota * slots) None; plains = replicate (lanes * quota * slots) 0 };
   roots = replicate (lanes * quota) false;
   garbage = replicate (lanes * quota) false;
+  strong = replicate (lanes * each) None;
+  pairs = record { serials = replicate (lanes * quota) 0; drawn = replicate lanes 0 };
   colours = record { marked = replicate (lanes * quota) false; listed = []; scanned = 0 };
   stock = record { stocks = full_stocks quota lanes; made = replicate lanes 0 };
   ends = record {
@@ -101,7 +104,7 @@ all_free z = record {
   nameless = λ i e. same_everywhere (item_count z) i None;
 }
 
-begins : (z : Sizes) → IsLawful z → IsPlain z (new_parts z.lanes z.quota z.slots) []
+begins : (z : Sizes) → IsLawful z → IsPlain z (new_parts z.lanes z.quota z.slots z.strong) []
 begins z lawful = record {
   legal = tt;
   rest = record { between = beginning_between; roots = λ e. absurd cc };
@@ -152,9 +155,20 @@ begins z lawful = record {
                 get_or-replicate (item_count z) k false d below
                 ∙ sym (ap (rooted_at (λ (n : Name). false)) (same_everywhere {A = Option Name} (item_count z) k None));
           };
-      no_strong = λ lane number. refl;
     };
     garbage = record { len = length-replicate _ _; each = λ i n there. absurd (no_name _ i n there.name) };
+    strong = record {
+      len = length-replicate _ _;
+      aims = λ lane number a b. subst (λ (o : Option ℕ). Aims (replicate (item_count z) None) (replicate (item_count z) Free) o None)
+          (sym (same_everywhere {A = Option ℕ} (z.lanes * z.strong) (lane * z.strong + number) None)) tt;
+      no_more = λ lane number out. refl;
+    };
+    pairs = record {
+      len = length-replicate _ _;
+      drawn = all_same z.lanes 0;
+      own = λ i n e. absurd (no_name _ i n e);
+      blank = λ i e. same_everywhere {A = ℕ} (item_count z) i 0;
+    };
     colours = record {
       marked_len = length-replicate _ _;
       idle = λ ne. refl;
@@ -182,5 +196,6 @@ begins z lawful = record {
 }
 
 -- the vectors that are made by the numbers of a shape
-pub begins_as : (z : Sizes) (lanes quota slots : ℕ) (p : Parts) → IsLawful z → lanes ≡ z.lanes → quota ≡ z.quota → slots ≡ z.slots → new_parts lanes quota slots ≡ p → IsPlain z p []
-begins_as z lanes quota slots p lawful by_lanes by_quota by_slots made = subst (λ (q : Parts). IsPlain z q []) made (rw (by_lanes, by_quota, by_slots) (begins z lawful))
+pub begins_as : (z : Sizes) (lanes quota slots each : ℕ) (p : Parts) → IsLawful z → lanes ≡ z.lanes → quota ≡ z.quota → slots ≡ z.slots → each ≡ z.strong
+    → new_parts lanes quota slots each ≡ p → IsPlain z p []
+begins_as z lanes quota slots each p lawful by_lanes by_quota by_slots by_strong made = subst (λ (q : Parts). IsPlain z q []) made (rw (by_lanes, by_quota, by_slots, by_strong) (begins z lawful))

@@ -32,7 +32,8 @@ use Rattle.heap_plain.specs.Notes.{MayEnd, is_done}
 use Rattle.heap_plain.specs.Sweeping.{without, Removes}
 use Rattle.heap_plain.specs.Lists.{Distinct}
 use Rattle.heap_plain.specs.Units.{UnitsShow, StandsAt, LivesAt}
-use Rattle.heap_plain.specs.Roots.{RootsShow, rooted_at}
+use Rattle.heap_plain.specs.Roots.{RootsShow, StrongShow, rooted_at}
+use Rattle.heap_plain.proofs.Pointers.{strong_map}
 use Rattle.heap_plain.specs.Cells.{CellsShow}
 use Rattle.heap_plain.specs.Painted.{Painted, grey_of}
 use Rattle.heap_plain.specs.Stocking.{FreeShows}
@@ -313,11 +314,14 @@ module _ {z : Sizes} {p : Parts} {h : List Entry} {lives : List Life} (was : IsP
           both_ways _ (sym (member_bit (first_at p.firsts j.0) u.0 u.1 j.0 refl) ∙ j.2)
           (was.rest.roots (sym s.phase ∙ marking) u.0 (among_contains w.units u.0 u.1.among) (n, u.1.whole j.0 n j.1 refl, inl e))))
 
-  roots_kept : RootsShow z p.names p.roots v.rooted w.strong
+  roots_kept : RootsShow z p.names p.roots v.rooted
   roots_kept = record {
     bits = Lists-same p.roots (item_count z) (λ i. rooted_at w.rooted (name_at p.names i)) _ s.roots.bits (λ i. same_bit (name_at p.names i));
-    no_strong = s.roots.no_strong;
   }
+
+  strong_kept : StrongShow z p.names lives p.strong w.strong
+  strong_kept = strong_map (λ lane number t x e a. let j = lives_at units_kept x (lives_on.strong lane number x e) in
+      subst (λ (k : ℕ). LivesAt p.names lives k x) (s.names.alone j.0 t x j.1.name a.name) j.1) s.strong
 
   cells_kept : CellsShow z p.names lives p.kinds p.targets p.plains w.kinds w.cell w.plain
   cells_kept = cells_less (λ i n a. record { name = a.name; life = (was_live i a.life).0 })
@@ -425,6 +429,8 @@ module _ {z : Sizes} {p : Parts} {h : List Entry} {lives : List Life} (was : IsP
     rows = record { kinds = s.kinds; cells = cells_kept };
     roots = roots_kept;
     garbage = garbage_fewer (λ i n a. record { name = a.name; life = (was_live i a.life).0 }) s.garbage;
+    strong = strong_kept;
+    pairs = s.pairs;
     colours = record { marked_len = s.marked_len; idle = λ ne. omega (arith, black, (s.marks marking).order); marks = λ e. absurd cc };
     stock = record { made = s.made; free = free_kept };
     ends = record {

@@ -10,7 +10,7 @@ use Rattle.std.proofs.lemmas.List.Sums.{sum_by-append}
 use Rattle.std.proofs.lemmas.Grind.{flat_map-append}
 use Rattle.world_model.specs.Sizes.{Sizes, item_count}
 use Rattle.world_model.specs.NameLists.{same_name, has, names_from, members, set_at}
-use Rattle.world_model.specs.World.{made, occupied}
+use Rattle.world_model.specs.World.{made, occupied, pair_of}
 use Rattle.world_model.specs.State.{Marks}
 use Rattle.world_model.specs.Next.{with_unit}
 use Rattle.world_model.specs.LaneSteps.{is_lawful}
@@ -21,7 +21,7 @@ use Rattle.world_model.proofs.NameFacts.{names_from_range, set_at_same, has_amon
 use Rattle.world_model.proofs.Barrier.{IsBarred, barred}
 use Rattle.world_model.proofs.Giving.{given_is_held_holds}
 use Rattle.world_model.proofs.Invalid.{garbage_is_marked_holds}
-use Rattle.heap_plain.specs.Types.{Name, Ref, Kind, Lane, Marking, Entry}
+use Rattle.heap_plain.specs.Types.{Name, Ref, Kind, Lane, Marking, Entry, Weak}
 use Rattle.heap_plain.specs.Types.act
 use Rattle.heap_plain.specs.declared.life.Life.{Life}
 use Rattle.heap_plain.specs.declared.life.Life.TheVariants.{Free, Live}
@@ -29,7 +29,7 @@ use Rattle.heap_plain.specs.Parts.{Parts, Objects, Lists, name_at, life_at, firs
 use Rattle.heap_plain.specs.Sweeping.{removed_name}
 use Rattle.heap_plain.specs.Filling.{FilledAt, RowsFilled}
 use Rattle.heap_plain.specs.Units.{NamesShow, IsPlace, UnitsShow, StandsAt, LivesAt, AreLinked}
-use Rattle.heap_plain.specs.Roots.{RootsShow, rooted_at, GarbageShow}
+use Rattle.heap_plain.specs.Roots.{RootsShow, rooted_at, GarbageShow, StrongShow}
 use Rattle.heap_plain.specs.Cells.{KindsShow, CellsShow, Aims}
 use Rattle.heap_plain.specs.Painted.{grey_of}
 use Rattle.heap_plain.specs.Colouring.{MarksShow}
@@ -50,6 +50,11 @@ use Rattle.heap_plain.proofs.MarkSteps.{set_still}
 use Rattle.heap_plain.proofs.Popping.{lane_below, Where, where_is, popped_lane, popped_free, free_popped}
 use Rattle.heap_plain.proofs.NewNames.{length-names_from, has_in_row, row_place}
 use Rattle.world_model.proofs.Places.{new_in_lane}
+use Rattle.heap_plain.specs.Pairing.{PairsShow, IsPair, paired}
+use Rattle.heap_plain.specs.Serials.{serial_at}
+use Rattle.world_model.specs.Follows.{IsMade}
+use Rattle.world_model.proofs.Pairs.{pair_found, pair_made}
+use Rattle.heap_plain.proofs.Pointers.{strong_map}
 
 -- a creation, and what its writes leave of the vectors
 pub record Creation (z : Sizes) (p : Parts) (h : List Entry) (l m : ℕ) (more : List Kind) (ns : List (Option Name)) (fs nx : List ℕ) (ks : List Kind)
@@ -340,10 +345,9 @@ module _ {z : Sizes} {p : Parts} {h : List Entry} {l m : ℕ} {more : List Kind}
   same_root i (inl w) = ap (rooted_at (after h).rooted) (name_in w.0 i w.1 w.2) ∙ not_rooted w.0 w.1 ∙ sym (ap (rooted_at (after h).rooted) (ap (name_at p.names) w.2 ∙ no_name w.0 w.1))
   same_root i (inr o) = ap (rooted_at (after h).rooted) (name_out i o)
 
-  roots_new : RootsShow z ns p.roots (after h).rooted (after h).strong
+  roots_new : RootsShow z ns p.roots (after h).rooted
   roots_new = record {
     bits = Lists-same p.roots (item_count z) (λ i. rooted_at (after h).rooted (name_at p.names i)) _ s.roots.bits (λ i. same_root i (where_is at (length more) i));
-    no_strong = s.roots.no_strong;
   }
 
   may_make : MayBy z (state_of h) (Lane l) (act.Make more (m + 1))
@@ -581,6 +585,36 @@ module _ {z : Sizes} {p : Parts} {h : List Entry} {l m : ℕ} {more : List Kind}
       each i n there (inr o) =
           new.by_garbage.outside i false o ∙ s.garbage.each i n (record { name = sym (name_out i o) ∙ there.name; life = sym (life_out i o) ∙ there.life })
 
+  -- ---- strong and weak pointers
+
+  strong_new : StrongShow z ns ls p.strong (after h).strong
+  strong_new = strong_map (λ lane number t v e a. same_life t v a) s.strong
+
+  -- what is new has no weak pointer
+  not_paired : (k : ℕ) → k < length more → pair_of (after h) (record { lane = l; count = m + 1 + k }) ≡ None
+  not_paired k below = go (pair_of (after h) (record { lane = l; count = m + 1 + k })) refl
+    where
+      go : (o : Option Weak) → pair_of (after h) (record { lane = l; count = m + 1 + k }) ≡ o → o ≡ None
+      go None e = refl
+      go (Some weak) e =
+          let found = pair_found (after h) (record { lane = l; count = m + 1 + k }) weak e in
+          let is_made = subst (λ (x : Name). IsMade (after h) x) found.2 (pair_made z h new.was.legal found.0 found.1) in
+          absurd (omega (arith, is_made.1, new.is))
+
+  pairs_new : PairsShow z ns p.pairs (after h).pairs
+  pairs_new = record { len = s.pairs.len; drawn = s.pairs.drawn; own = λ i n e. own i n e (where_is at (length more) i); blank = λ i e. blank i e (where_is at (length more) i) }
+    where
+      own : (i : ℕ) (n : Name) → name_at ns i ≡ Some n → Where at (length more) i → IsPair i (serial_at p.serials i) (pair_of (paired (after h).pairs) n)
+      own i n e (inl w) =
+          let none : serial_at p.serials i ≡ 0 = s.pairs.blank i (ap (name_at p.names) w.2 ∙ no_name w.0 w.1) in
+          subst (λ (x : Name). IsPair i (serial_at p.serials i) (pair_of (paired (after h).pairs) x)) (sym (name_is w.0 i n w.1 w.2 e))
+          (subst (λ (o : Option Weak). IsPair i (serial_at p.serials i) o) (sym (not_paired w.0 w.1)) none)
+      own i n e (inr o) = s.pairs.own i n (sym (name_out i o) ∙ e)
+
+      blank : (i : ℕ) → name_at ns i ≡ None → Where at (length more) i → serial_at p.serials i ≡ 0
+      blank i e (inl w) = absurd (let named = name_in w.0 i w.1 w.2 in cc)
+      blank i e (inr o) = s.pairs.blank i (sym (name_out i o) ∙ e)
+
   -- ---- all of it
 
   abbrev made_entry : Entry
@@ -593,6 +627,8 @@ module _ {z : Sizes} {p : Parts} {h : List Entry} {l m : ℕ} {more : List Kind}
         rows = record { kinds = ks; targets = ts; plains = ps };
         roots = p.roots;
         garbage = gs;
+        strong = p.strong;
+        pairs = p.pairs;
         colours = record (p.colours) { marked = marked' };
         stock = record { stocks = set p.stocks l (taken (get_or p.stocks l no_stock) (length more)); made = set p.made l (m + length more) };
         ends = p.ends;
@@ -603,6 +639,8 @@ module _ {z : Sizes} {p : Parts} {h : List Entry} {l m : ℕ} {more : List Kind}
     rows = record { kinds = kinds_new; cells = cells_new };
     roots = roots_new;
     garbage = garbage_new;
+    strong = strong_new;
+    pairs = pairs_new;
     colours = record { marked_len = length-set p.marked first true ∙ s.marked_len; idle = s.idle; marks = marks_new };
     stock = record { made = made_new; free = free_new };
     ends =

@@ -170,6 +170,8 @@ module _ {z : Sizes} {old : Shown} {lane : ℕ} {at : Name} {head count left : �
       rows = k.rows;
       roots = k.roots;
       garbage = k.garbage;
+      strong = k.strong;
+      pairs = k.pairs;
       colours = record { marked_len = k.marked_len; idle = k.idle; marks = λ m. absurd (i.unmarked m) };
       stock = record { made = k.made; free = free_lives (λ i f. f) (λ i f. f) (λ l. let t = occupied_next z h e i.legal may_leave l in omega arith) k.free };
       ends = record {

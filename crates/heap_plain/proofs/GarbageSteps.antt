@@ -68,6 +68,8 @@ module _ {z : Sizes} {p : Parts} {h : List Entry} {l : ℕ} {at : Ref} (was : Is
         rows = s.rows;
         roots = s.roots;
         garbage = garbage_set at.index n s.names (root.index_below was frame held) (root.here was frame held) s.garbage;
+        strong = s.strong;
+        pairs = s.pairs;
         colours = s.colours;
         stock = s.stock;
         ends = s.ends;

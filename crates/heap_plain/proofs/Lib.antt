@@ -11,6 +11,7 @@ pub mod FrameSteps
 pub mod Beginning
 pub mod Standing
 pub mod Cells
+pub mod Pointers
 pub mod Kinding
 pub mod Picking
 pub mod Popping
@@ -27,7 +28,10 @@ pub mod Needed
 pub mod UnitSteps
 pub mod MarkSlices
 pub mod GarbageSteps
+pub mod Handing
 pub mod StoreSteps
+pub mod StrongSteps
+pub mod PairSteps
 pub mod PartSteps
 pub mod Dissolving
 pub mod CommitSteps

@@ -226,6 +226,8 @@ module _ {z : Sizes} {old : Shown} {marker budget total : ℕ} {p : Parts} {hist
       rows = k.rows;
       roots = k.roots;
       garbage = k.garbage;
+      strong = k.strong;
+      pairs = k.pairs;
       colours = record {
         marked_len = shades_len sh ∙ k.marked_len;
         idle = λ ne. absurd (ne marking);

@@ -1,10 +1,9 @@
 -- The names of a new unit, and its members.
-use Rattle.std.proofs.Common.{◌≡◌, ℕ, ◌+◌, ◌<◌, ◌==◌, refl, sym, subst, ap, ◌∙◌, inl, inr, zero, suc, arith, Bool, cond, true, false, ◌||◌, ◌-◌, List, [], ◌∷◌, ◌++◌, length, get_or, map, ◌⊎◌, count_by}
+use Rattle.std.proofs.Common.{◌≡◌, ℕ, ◌+◌, ◌<◌, refl, sym, subst, ap, ◌∙◌, inl, inr, zero, suc, arith, true, ◌||◌, ◌-◌, List, [], ◌∷◌, ◌++◌, length, get_or, map, ◌⊎◌}
 use Rattle.std.specs.List.{flat_map}
 use Rattle.std.proofs.lemmas.List.Folds.{list_any-append}
 use Rattle.world_model.specs.NameLists.{same_name, has, names_from, members}
 use Rattle.world_model.proofs.ListFacts.{Among, among_append, or_true, or_right, among_left, among_right}
-use Rattle.world_model.proofs.Counts.{count-cons}
 use Rattle.world_model.proofs.NameFacts.{same_name_refl, names_from_range, has_among, among_has}
 use Rattle.heap_plain.specs.Types.{Name, Ref, Kind}
 use Rattle.heap_plain.specs.Lists.{Distinct}

@@ -33,6 +33,7 @@ use Rattle.heap_plain.specs.Units.{AreLinked}
 use Rattle.heap_plain.specs.Destroying.{RemovedShow, removal_at, GoneShow, LiesAt, QueueShows, AreNamed, ReadyAt, gone_world, at_end, still_there}
 use Rattle.heap_plain.specs.Plain.{ShowsWorld, Shows}
 use Rattle.heap_plain.proofs.GarbageSteps.{garbage_fewer}
+use Rattle.heap_plain.proofs.Pointers.{strong_map}
 use Rattle.heap_plain.proofs.WorldFacts.{differs, different_distinct}
 use Rattle.heap_plain.proofs.Counting.{count_alike}
 use Rattle.heap_plain.proofs.Cells.{cells_less}
@@ -59,6 +60,8 @@ purged_shows {z} {p} {w} {ls = ls} {ps} {rs = rs} k idle same removed gone count
   };
   roots = k.roots;
   garbage = garbage_fewer (λ i n a. record { name = a.name; life = same.was_live i a.life }) k.garbage;
+  strong = strong_map (λ lane number t m e a. record { name = a.name; life = same.live t a.life }) k.strong;
+  pairs = k.pairs;
   colours = record { marked_len = k.marked_len; idle = k.idle; marks = λ e. absurd (let a = idle in cc) };
   stock = record { made = k.made; free = free_lives same.free same.was_free (λ lane. ap (λ (c : ℕ). live_count w lane + c) (counts lane)) k.free };
   ends = record {

@@ -22,7 +22,7 @@ use Rattle.heap_plain.specs.Types.called
 use Rattle.heap_plain.specs.Types.purge
 use Rattle.heap_plain.specs.Parts.{Parts, Shown, Holds, name_at, name_of, class_at, first_at}
 use Rattle.heap_plain.specs.declared.life.Life.TheVariants.{Begun, Finished}
-use Rattle.heap_plain.specs.Listing.{chained}
+use Rattle.heap_plain.specs.Listing.{chained, chain}
 use Rattle.heap_plain.specs.Queue.{Queued, Begins}
 use Rattle.heap_plain.specs.Purging.{Tells, next_poll, finished_unit, asked_acts, asked_calls, Stocks, give_all, CanGive}
 use Rattle.heap_plain.specs.Destroying.{count_left}
@@ -33,6 +33,7 @@ use Rattle.heap_plain.proofs.Entries.{Done, does}
 use Rattle.heap_plain.proofs.Standing.{name_below}
 use Rattle.heap_plain.proofs.PurgeSteps.{IsAmid, first, begin_may, begin_shows, asked_first, ask_some, some_wait, head_below, refused_legal, refused_shows, agreed_legal, agreed_shows}
 use Rattle.heap_plain.proofs.Releasing as releasing
+use Rattle.heap_plain.specs.Serials.{all_cleared}
 
 -- ---- hooks
 
@@ -131,10 +132,11 @@ agreed_parts p y poll = record p {
   };
 }
 
-abbrev pub released_parts : Parts → Stocks → ℕ → Parts
-released_parts p t size =
+abbrev pub released_parts : Parts → Stocks → ℕ → ℕ → Parts
+released_parts p t head size =
     record p {
       objects = record (p.objects) { names = t.names; lives = t.lives };
+      pairs = record (p.pairs) { serials = all_cleared p.serials (chain p.next head size) };
       stock = record (p.stock) { stocks = t.stocks };
       ends = record (p.ends) { left = p.left - size; done = None };
     }
@@ -299,19 +301,19 @@ module _ {z : Sizes} {old : Shown} {before mid : Option (List HookCall)} {was te
     }
 
     purge_releases : (n : Name) → name_at p.names head ≡ Some n
-        → IsPurging z old before mid was test (steps + 1) (released_parts p t size) (history ++ by Collector (act.Released n ∷ []))
+        → IsPurging z old before mid was test (steps + 1) (released_parts p t head size) (history ++ by Collector (act.Released n ∷ []))
     purge_releases n e =
         let same : f.0 ≡ n = (let a = f.1 in let b = e in cc) in
-        subst (λ (m : Name). IsPurging z old before mid was test (steps + 1) (released_parts p t size) (history ++ by Collector (act.Released m ∷ []))) same
+        subst (λ (m : Name). IsPurging z old before mid was test (steps + 1) (released_parts p t head size) (history ++ by Collector (act.Released m ∷ []))) same
         (purges_more (act.Released f.0 ∷ []) [] i (releasing.release_may amid idle all head ready few_items, tt) refl refl
         (releasing.release_shows amid idle all head ready few_items) refl refl refl refl i.gathered
         holds refl (nothing_told mid) (tt, tt) (λ n class poll answer. ((λ t. t), (λ t. t))))
 
     -- by the size and the vectors that the code has
     pub purge_released : (n : Name) → name_at p.names head ≡ Some n → (count : ℕ) → count ≡ size → (q : Stocks) → q ≡ t
-        → IsPurging z old before mid was test (steps + 1) (released_parts p q count) (history ++ by Collector (act.Released n ∷ []))
+        → IsPurging z old before mid was test (steps + 1) (released_parts p q head count) (history ++ by Collector (act.Released n ∷ []))
     purge_released n e count same q left =
-        subst₂ (λ (c : ℕ) (x : Stocks). IsPurging z old before mid was test (steps + 1) (released_parts p x c) (history ++ by Collector (act.Released n ∷ [])))
+        subst₂ (λ (c : ℕ) (x : Stocks). IsPurging z old before mid was test (steps + 1) (released_parts p x head c) (history ++ by Collector (act.Released n ∷ [])))
         (sym same) (sym left) (purge_releases n e)
 
 -- ---- the call

@@ -5,7 +5,7 @@ use Rattle.std.proofs.lemmas.List.{length-map}
 use Rattle.std.proofs.lemmas.List.Sums.{length-filter}
 use Rattle.world_model.specs.Sizes.{Sizes, item_count}
 use Rattle.world_model.specs.NameLists.{same_name, has, members, begins_with}
-use Rattle.world_model.specs.World.{World, Removal, Begun as AtBegun, Finished as AtFinished, is_at, destruction_order, occupied}
+use Rattle.world_model.specs.World.{World, Removal, Begun as AtBegun, Finished as AtFinished, is_at, destruction_order, occupied, pair_of}
 use Rattle.world_model.specs.State.{State}
 use Rattle.world_model.specs.Next.{released}
 use Rattle.world_model.specs.Histories.{MayBy, state_of}
@@ -23,7 +23,7 @@ use Rattle.heap_plain.specs.Types.act
 use Rattle.heap_plain.specs.declared.life.Life.{Life}
 use Rattle.heap_plain.specs.declared.life.Life.TheVariants.{Free, Live}
 use Rattle.heap_plain.specs.Parts.{Parts, Objects, name_at, life_at, is_gone, stage_of}
-use Rattle.heap_plain.specs.Listing.{chained}
+use Rattle.heap_plain.specs.Listing.{chained, chain}
 use Rattle.heap_plain.specs.Purging.{Stocks, give_all, CanGive}
 use Rattle.heap_plain.specs.Lists.{Distinct}
 use Rattle.heap_plain.specs.Units.{NamesShow, UnitsShow, StandsAt, LivesAt, AreLinked}
@@ -37,7 +37,7 @@ use Rattle.heap_plain.proofs.WorldFacts.{no_longer, different_distinct}
 use Rattle.heap_plain.proofs.Counting.{occupied_next, count_all, count_alike}
 use Rattle.heap_plain.proofs.Fillings.{Lists-same}
 use Rattle.heap_plain.proofs.Standing.{name_below, links_same, lives_at}
-use Rattle.heap_plain.proofs.Listings.{linked_member}
+use Rattle.heap_plain.proofs.Listings.{linked_member, linked_named}
 use Rattle.heap_plain.proofs.BeginSteps.{left_idle}
 use Rattle.heap_plain.proofs.SweepSteps.{name_among, among_name}
 use Rattle.heap_plain.proofs.Gathering.{filter_one, same_unit, distinct_unit}
@@ -45,6 +45,9 @@ use Rattle.heap_plain.proofs.Queueing.{named_none}
 use Rattle.heap_plain.proofs.Emptying.{Emptying, Emptied, Empties, empties}
 use Rattle.heap_plain.proofs.Restaging.{gone_index, free_lives}
 use Rattle.heap_plain.proofs.PurgeSteps.{IsAmid}
+use Rattle.heap_plain.specs.Serials.{serial_at, all_cleared}
+use Rattle.heap_plain.specs.Pairing.{PairsShow, IsPair, paired}
+use Rattle.heap_plain.proofs.Pointers.{strong_map, length-all_cleared, cleared_still, cleared_in, cleared_out, named_among, among_named}
 
 -- ---- lists
 
@@ -339,10 +342,9 @@ module _ {z : Sizes} {p : Parts} {h : List Entry} (amid : IsAmid z p h) (idle : 
     all = λ v a. let r = k.units.all v a in (r.0, stands' r.0 v r.1);
   }
 
-  roots' : RootsShow z t.names p.roots w.rooted w.strong
+  roots' : RootsShow z t.names p.roots w.rooted
   roots' = record {
     bits = Lists-same p.roots (item_count z) (λ i. rooted_at w.rooted (name_at p.names i)) _ k.roots.bits (λ i. same i (name_at p.names i) refl);
-    no_strong = k.roots.no_strong;
   }
     where
       not_rooted : (m : Name) → has u m ≡ true → w.rooted m ≡ false
@@ -365,6 +367,37 @@ module _ {z : Sizes} {p : Parts} {h : List Entry} (amid : IsAmid z p h) (idle : 
 
   cells' : CellsShow z t.names t.lives p.kinds p.targets p.plains w.kinds w.cell w.plain
   cells' = cells_less (λ i m a. lived i m a) (λ i m slot j v there e a. still_lives j v a) k.cells
+
+  -- ---- weak pointers
+
+  abbrev cleared : List ℕ
+  cleared = all_cleared p.serials (chain p.next head (get_or p.sizes head 0))
+
+  linked_names : AreNamed p.names (chain p.next head (get_or p.sizes head 0)) u
+  linked_names = subst (λ (size : ℕ). AreNamed p.names (chain p.next head size) u) (sym size_is) (linked_named p.names p.next head u lies.linked)
+
+  pairs' : PairsShow z t.names (record (p.pairs) { serials = cleared }) w.pairs
+  pairs' = record {
+    len = length-all_cleared p.serials (chain p.next head (get_or p.sizes head 0)) ∙ k.pairs.len;
+    drawn = k.pairs.drawn;
+    own = λ i m e.
+        let o = was_named i m e in
+        subst (λ (x : ℕ). IsPair i x (pair_of (paired w.pairs) m)) (sym (cleared_out p.serials (chain p.next head (get_or p.sizes head 0)) i (λ a.
+        let x = named_among p.names _ u linked_names i a in
+        let same : x.0 ≡ m = (let b = sym x.2 ∙ o.0 in cc) in
+        clash x.0 (among_has u x.0 x.1) (ap (has u) same ∙ o.1))))
+        (k.pairs.own i m o.0);
+    blank = λ i e. blank i e (name_at p.names i) refl;
+  }
+    where
+      blank : (i : ℕ) → name_at t.names i ≡ None → (o : Option Name) → name_at p.names i ≡ o → serial_at cleared i ≡ 0
+      blank i e None at = cleared_still p.serials (chain p.next head (get_or p.sizes head 0)) i (k.pairs.blank i at)
+      blank i e (Some m) at = go (same_has m)
+        where
+          go : (has u m ≡ true) ⊎ (has u m ≡ false) → serial_at cleared i ≡ 0
+          go (inl a) = cleared_in p.serials (chain p.next head (get_or p.sizes head 0)) i
+              (among_named p.names _ u linked_names i m at k.names.alone (has_among u m a))
+          go (inr a) = absurd (let b = (stays i m at a).0 in cc)
 
   -- ---- removed objects
 
@@ -482,6 +515,7 @@ module _ {z : Sizes} {p : Parts} {h : List Entry} (amid : IsAmid z p h) (idle : 
   pub release_shows : ShowsWorld z
       (record p {
         objects = o';
+        pairs = record (p.pairs) { serials = cleared };
         stock = record (p.stock) { stocks = t.stocks };
         ends = record (p.ends) { left = p.left - get_or p.sizes head 0; done = None };
       }) (released w n) s.marks.kept s.marks.fresh s.marks.scanned
@@ -492,6 +526,8 @@ module _ {z : Sizes} {p : Parts} {h : List Entry} (amid : IsAmid z p h) (idle : 
     rows = record { kinds = kinds'; cells = cells' };
     roots = roots';
     garbage = garbage_fewer lived k.garbage;
+    strong = strong_map (λ lane number i m e a. still_lives i m a) k.strong;
+    pairs = pairs';
     colours = record { marked_len = k.marked_len; idle = k.idle; marks = λ e. absurd (let a = idle in cc) };
     stock = record { made = k.made; free = end.free };
     ends = record { removed = removed'; gone = gone'; room = k.room; gathers = λ e. absurd (let a = idle in cc); queue = λ e. queue'; none_asked = λ ne. absurd (ne idle) };

@@ -52,13 +52,12 @@ need_not phase false e m = absurd (let both : (is_marking phase && true) ≡ tru
 
 -- ---- the root bits
 
-pub roots_set : {z : Sizes} {names : List (Option Name)} {kinds : _} {lives : List Life} {roots : List Bool} {rooted : Name → Bool} {strong : _} (i : ℕ) (n : Name) (on : Bool)
-    → NamesShow z names kinds → LivesAt names lives i n → RootsShow z names roots rooted strong → RootsShow z names (set roots i on) (set_name rooted n on) strong
+pub roots_set : {z : Sizes} {names : List (Option Name)} {kinds : _} {lives : List Life} {roots : List Bool} {rooted : Name → Bool} (i : ℕ) (n : Name) (on : Bool)
+    → NamesShow z names kinds → LivesAt names lives i n → RootsShow z names roots rooted → RootsShow z names (set roots i on) (set_name rooted n on)
 roots_set {z} {names} {lives} {roots} {rooted} i n on ns here s = record {
   bits = Lists-set roots (item_count z) i on (λ j. rooted_at rooted (name_at names j)) _ s.bits (omega (arith, name_below names i n here.name, ns.items))
       (ap (rooted_at (set_name rooted n on)) here.name ∙ (let t = same_name_refl n in rw t refl))
       (λ j ne. others j ne (name_at names j) refl);
-  no_strong = s.no_strong;
 }
   where
     others : (j : ℕ) → j ≢ i → (o : Option Name) → name_at names j ≡ o → rooted_at (set_name rooted n on) o ≡ rooted_at rooted o
@@ -127,7 +126,7 @@ module _ {z : Sizes} {p : Parts} {h : List Entry} {l : ℕ} {at : Ref} (was : Is
     },
     tt,
   )
-      record { gate = s.gate; objects = s.objects; rows = s.rows; roots = roots_set at.index n on s.names here s.roots; garbage = s.garbage; colours = s.colours; stock = s.stock; ends = s.ends }
+      record { gate = s.gate; objects = s.objects; rows = s.rows; roots = roots_set at.index n on s.names here s.roots; garbage = s.garbage; strong = s.strong; pairs = s.pairs; colours = s.colours; stock = s.stock; ends = s.ends }
 
   pub has_room : p.phase ≡ Marking → get_or p.marked head false ≡ false → length p.listed < length p.marked
   has_room e white = worklist_room head (s.marks e).worklist (omega (arith, head_below, s.marked_len)) white
@@ -191,6 +190,8 @@ module _ {z : Sizes} {p : Parts} {h : List Entry} {l : ℕ} {at : Ref} (was : Is
         rows = s.rows;
         roots = roots_set at.index n true s.names here s.roots;
         garbage = s.garbage;
+        strong = s.strong;
+        pairs = s.pairs;
         colours = shaded e white;
         stock = s.stock;
         ends = s.ends;

@@ -11,7 +11,7 @@ use Rattle.heap_plain.specs.Parts.{name_at, first_at, kind_at, target_at}
 use Rattle.heap_plain.specs.Listing.{chained}
 use Rattle.heap_plain.specs.Notes.{names_at}
 use Rattle.heap_plain.specs.Painted.{Painted, IsNextGrey, IsWorklist, greyed, all_greyed}
-use Rattle.heap_plain.specs.Shading.{InRoots, InRow, InUnit, CanShade, Shades, root_bit}
+use Rattle.heap_plain.specs.Shading.{InRoots, InRow, InStrong, InUnit, CanShade, Shades, root_bit}
 use Rattle.heap_plain.proofs.Noting.{names_at-append, one_name}
 use Rattle.heap_plain.proofs.MarkSteps.{set_still, worklist_push}
 use Rattle.world_model.proofs.Joins.{by-append}
@@ -128,6 +128,12 @@ pub row_more : (targets : List (Option ℕ)) (row k t : ℕ) → InRow targets r
 row_more targets row k t (slot, below, at) = dite (ℕ_discrete slot k)
     (λ (e : slot ≡ k). inr (ap (λ (x : ℕ). get_or targets (row + x) None) (sym e) ∙ at))
     (λ (ne : slot ≢ k). inl (slot, omega arith, at))
+
+-- the strong pointers of one lane more
+pub strong_more : (strong : List (Option ℕ)) (each k t : ℕ) → InStrong strong each (k + 1) t → InStrong strong each k t ⊎ InRow strong (k * each) each t
+strong_more strong each k t (lane, number, a, b, e) = dite (ℕ_discrete lane k)
+    (λ (same : lane ≡ k). inr (number, b, ap (λ (x : ℕ). target_at each strong x number) (sym same) ∙ e))
+    (λ (ne : lane ≢ k). inl (lane, number, omega arith, b, e))
 
 module _ (kinds : List Kind) (slots : ℕ) (targets : List (Option ℕ)) (links : List ℕ) (head : ℕ) where
   pub unit_more : (k n t : ℕ) → k ≤ n → InUnit kinds slots targets links head k t → InUnit kinds slots targets links head n t

@@ -1,20 +1,14 @@
 -- Reading and writing cells.
-use Rattle.std.proofs.Common.{◌≡◌, ℕ, ◌+◌, ◌*◌, ◌-◌, ◌<◌, ◌≤◌, refl, sym, subst, ap, ◌∙◌, inl, inr, arith, Bool, true, false, List, [], ◌∷◌, ◌++◌, append_assoc, length, get_or, Option, Some, None, IfSome, IsSome, is_some, option_map}
+use Rattle.std.proofs.Common.{◌≡◌, ℕ, ◌+◌, ◌*◌, ◌-◌, ◌<◌, ◌≤◌, refl, sym, subst, ap, ◌∙◌, inl, inr, arith, Bool, true, false, List, [], ◌∷◌, ◌++◌, append_assoc, length, get_or, Option, Some, None, IsSome, is_some}
 use Rattle.std.specs.Option.{option_map_or}
 use Rattle.std.proofs.Math.ListN.{set}
-use Rattle.world_model.specs.Sizes.{Sizes, item_count}
-use Rattle.world_model.specs.NameLists.{has, set_at, set_name}
+use Rattle.world_model.specs.Sizes.{Sizes}
+use Rattle.world_model.specs.NameLists.{set_at, set_name}
 use Rattle.world_model.specs.World.{kind_of, refs_of, plain_of}
-use Rattle.world_model.specs.State.{Holds as HoldsName}
-use Rattle.world_model.specs.LaneSteps.{IsShaded}
-use Rattle.world_model.specs.Histories.{Legal, after, state_of}
-use Rattle.world_model.specs.Next.{given}
+use Rattle.world_model.specs.Histories.{after, state_of}
 use Rattle.world_model.specs.Engines.{IsInFrame, name_of}
-use Rattle.world_model.proofs.NameFacts.{same_name_refl}
-use Rattle.world_model.proofs.Giving.{given_is_held_holds}
 use Rattle.heap_plain.specs.Types.{Name, Ref, Kind, Lane, Marking, Act, Entry}
 use Rattle.heap_plain.specs.Types.act
-use Rattle.heap_plain.specs.declared.life.Life.{Life}
 use Rattle.heap_plain.specs.Painted.{Painted, greyed}
 use Rattle.heap_plain.specs.Parts.{Parts, Rows, Holds, name_at, first_at, kind_at, target_at}
 use Rattle.heap_plain.specs.Shading.{MarksIf, must_shade, head_of, shade_notes, rooting}
@@ -25,18 +19,10 @@ use Rattle.heap_plain.specs.Plain.{Shows, IsPlain}
 use Rattle.heap_plain.proofs.Resting.{in_open, holds_next}
 use Rattle.heap_plain.proofs.Entries.{Done, does}
 use Rattle.heap_plain.proofs.Cells.{place_below, cells_write, numbers_write, aims_target}
+use Rattle.heap_plain.proofs.Handing.{Gives, Stored, index_of, refers_name, given_held, gives_it, stored_aims, stored_below, stored_names, stored_shaded}
 use Rattle.heap_plain.proofs.RootSteps as root
 
 -- ---- references
-
--- a reference to the object that a cell holds has the name that the cell names
-refers_name : (names : List (Option Name)) (lives : List Life) (o : Option ℕ) (c : Option Name) (r : Option Ref) → Aims names lives o c → Refers names o r → name_of r ≡ c
-refers_name names lives None None None a e = refl
-refers_name names lives None None (Some r) a e = absurd e
-refers_name names lives None (Some n) r a e = absurd a
-refers_name names lives (Some t) None r a e = absurd a
-refers_name names lives (Some t) (Some n) None a e = absurd e
-refers_name names lives (Some t) (Some n) (Some r) a e = let x = a.name in let y = e.1 in cc
 
 -- the rows with another value in one place
 abbrev pub with_target : Parts → ℕ → Option ℕ → Rows
@@ -108,41 +94,20 @@ module _ {z : Sizes} {p : Parts} {h : List Entry} {l : ℕ} {at : Ref} (was : Is
         rows = record { kinds = s.kinds; cells = numbers_write at.index n slot s.names here high s.cells value };
         roots = s.roots;
         garbage = s.garbage;
+        strong = s.strong;
+        pairs = s.pairs;
         colours = s.colours;
         stock = s.stock;
         ends = s.ends;
       }
-
-  -- ---- what a cell gives
-
-  -- a reference that is given is held
-  given_held : (o : Option ℕ) (got : Option Ref) (old : List Entry) (a : Act) → Legal z (old ++ record { pass = Lane l; act = a } ∷ [])
-      → ((r : Ref) → got ≡ Some r → has (given l a) r.name ≡ true) → Refers p.names o got
-      → IfSome got (λ r. Holds record { history = old ++ record { pass = Lane l; act = a } ∷ []; names = p.names } l r)
-  given_held o None old a legal gives e = tt
-  given_held None (Some r) old a legal gives e = absurd e
-  given_held (Some t) (Some r) old a legal gives e = record {
-    given = (given_is_held_holds z old l a legal r.name (gives r refl)).0;
-    placed = ap (name_at p.names) e.0 ∙ e.1;
-    alone = λ j there. s.names.alone j r.index r.name there (ap (name_at p.names) e.0 ∙ e.1);
-  }
 
   -- ---- a reference is read
 
   abbrev read_act : ℕ → Option Ref → Act
   read_act slot got = act.ReadRef n slot (name_of got)
 
-  -- what a call does that gives a reference
-  pub record Gives (q : Parts) (new : List Entry) (a : Act) (got : Option Ref) : Type 0 where
-    pub done : Done z q h new (Lane l) a
-    pub given : IfSome got (λ r. Holds record { history = new; names = p.names } l r)
-
-  gives_it : (got : Option Ref) (r : Ref) → got ≡ Some r → has (given l (act.ReadRef n 0 (name_of got))) r.name ≡ true
-  gives_it None r e = absurd cc
-  gives_it (Some q) r e = let same : q ≡ r = cc in rw (ap (λ (x : Ref). x.name) same, same_name_refl r.name) refl
-
   pub ref_read : (slot : ℕ) → slot < refs_of (after h) n → (got : Option Ref) → Refers p.names (target_at z.slots p.targets at.index slot) got
-      → Gives p (h ++ record { pass = Lane l; act = read_act slot got } ∷ []) (read_act slot got) got
+      → Gives z p h (h ++ record { pass = Lane l; act = read_act slot got } ∷ []) l (read_act slot got) got
   ref_read slot is_ref got refers =
       let got_is = refers_name p.names p.lives (target_at z.slots p.targets at.index slot) ((after h).cell n slot) got (aims slot (ref_below slot is_ref)) refers in
       let done =
@@ -154,44 +119,11 @@ module _ {z : Sizes} {p : Parts} {h : List Entry} {l : ℕ} {at : Ref} (was : Is
         },
         tt,
       ) s in
-      record { done = done; given = given_held (target_at z.slots p.targets at.index slot) got h (read_act slot got) done.plain.legal (gives_it got) refers }
+      record { done = done; given = given_held was frame (target_at z.slots p.targets at.index slot) got h (read_act slot got) done.plain.legal (gives_it got) refers }
 
   -- ---- a reference is written
 
-  abbrev index_of : Option Ref → Option ℕ
-  index_of to = option_map (λ r. r.index) to
-
-  -- what is stored is held
-  abbrev Stored : Option Ref → Type 0
-  Stored to = IfSome to (λ r. Holds record { history = h; names = p.names } l r)
-
-  stored_aims : (to : Option Ref) → Stored to → Aims p.names p.lives (index_of to) (name_of to)
-  stored_aims None k = tt
-  stored_aims (Some r) k = root.here was frame k
-
-  stored_below : (to : Option Ref) → Stored to → (t : ℕ) → index_of to ≡ Some t → t < item_count z
-  stored_below None k t e = absurd cc
-  stored_below (Some r) k t e = let same : r.index ≡ t = (let x = e in cc) in omega (arith, root.index_below was frame k)
-
-  stored_names : (to : Option Ref) → Stored to → IfSome (name_of to) (λ m. HoldsName (state_of h) l m)
-  stored_names None k = tt
-  stored_names (Some r) k = k.given
-
-  -- where nothing has to be marked, it is
-  stored_shaded : (to : Option Ref) → Stored to → must_shade p.phase p.firsts p.marked to ≡ false → IsShaded (state_of h) (name_of to)
-  stored_shaded None k e m = tt
-  stored_shaded (Some r) k e m = sym (root.marked_is was frame k (s.phase ∙ m)) ∙ root.need_not p.phase (get_or p.marked (first_at p.firsts r.index) false) e (s.phase ∙ m)
-
-  -- what a store needs of the one to which it stores
-  pub stored_index : (to : Option Ref) → Stored to → IfSome to (λ r. r.index < length p.firsts)
-  stored_index None k = tt
-  stored_index (Some r) k = omega (arith, root.index_below was frame k, s.units.firsts_len)
-
-  pub stored_room : (to : Option Ref) → Stored to → must_shade p.phase p.firsts p.marked to ≡ true → length p.listed < length p.marked
-  stored_room None k e = absurd cc
-  stored_room (Some r) k e = let d = root.must p.phase (get_or p.marked (first_at p.firsts r.index) false) e in root.has_room was frame k d.0 d.1
-
-  pub stored_root : (on : Bool) → Stored (rooting on at)
+  pub stored_root : (on : Bool) → Stored was frame (rooting on at)
   stored_root true = held
   stored_root false = tt
 
@@ -212,23 +144,23 @@ module _ {z : Sizes} {p : Parts} {h : List Entry} {l : ℕ} {at : Ref} (was : Is
     write_entry to = record { pass = Lane l; act = write_act to }
 
     -- the rows after a store
-    rows_written : (to : Option Ref) → Stored to
+    rows_written : (to : Option Ref) → Stored was frame to
         → CellsShow z p.names p.lives p.kinds (set p.targets place (index_of to)) p.plains (after h).kinds
         (set_name (after h).cell n (set_at ((after h).cell n) slot (name_of to))) (after h).plain
-    rows_written to k = cells_write at.index n slot s.names here in_row s.cells (index_of to) (name_of to) (omega (arith, refs_are)) (stored_aims to k) (stored_below to k)
+    rows_written to k = cells_write at.index n slot s.names here in_row s.cells (index_of to) (name_of to) (omega (arith, refs_are)) (stored_aims was frame to k) (stored_below was frame to k)
 
     -- what a store does
     abbrev Written : Option Ref → Painted → List Entry → Type 0
-    Written to c new = Gives (record p { colours = c; rows = with_target p place (index_of to) }) new (write_act to) old
+    Written to c new = Gives z (record p { colours = c; rows = with_target p place (index_of to) }) h new l (write_act to) old
 
     -- nothing is marked
-    stays : (to : Option Ref) → Stored to → must_shade p.phase p.firsts p.marked to ≡ false → Written to p.colours (h ++ write_entry to ∷ [])
+    stays : (to : Option Ref) → Stored was frame to → must_shade p.phase p.firsts p.marked to ≡ false → Written to p.colours (h ++ write_entry to ∷ [])
     stays to k e =
         let done = does (Lane l) (write_act to) (write_act to ∷ []) was (inl refl, tt) (
           record {
             in_range = frame.in_range;
             frame = in_open was.rest.between frame.opened;
-            may = record { place = record { held = held.given; in_range = is_ref }; held = stored_names to k; was = old_is; shaded = stored_shaded to k e };
+            may = record { place = record { held = held.given; in_range = is_ref }; held = stored_names was frame to k; was = old_is; shaded = stored_shaded was frame to k e };
           },
           tt,
         )
@@ -238,11 +170,13 @@ module _ {z : Sizes} {p : Parts} {h : List Entry} {l : ℕ} {at : Ref} (was : Is
           rows = record { kinds = s.kinds; cells = rows_written to k };
           roots = s.roots;
           garbage = s.garbage;
+          strong = s.strong;
+          pairs = s.pairs;
           colours = s.colours;
           stock = s.stock;
           ends = s.ends;
         } in
-        record { done = done; given = given_held (target_at z.slots p.targets at.index slot) old h (write_act to) done.plain.legal (gives_it old) refers }
+        record { done = done; given = given_held was frame (target_at z.slots p.targets at.index slot) old h (write_act to) done.plain.legal (gives_it old) refers }
 
     -- the unit of the target is marked first
     shades : (r : Ref) (k : Holds record { history = h; names = p.names } l r) (e : p.phase ≡ Marking) → get_or p.marked (first_at p.firsts r.index) false ≡ false
@@ -277,13 +211,15 @@ module _ {z : Sizes} {p : Parts} {h : List Entry} {l : ℕ} {at : Ref} (was : Is
           rows = record { kinds = s.kinds; cells = rows_written (Some r) k };
           roots = s.roots;
           garbage = s.garbage;
+          strong = s.strong;
+          pairs = s.pairs;
           colours = root.shaded was frame k e white;
           stock = s.stock;
           ends = s.ends;
         }) in
-        record { done = done; given = given_held (target_at z.slots p.targets at.index slot) old (h ++ note ∷ []) (write_act (Some r)) done.plain.legal (gives_it old) refers }
+        record { done = done; given = given_held was frame (target_at z.slots p.targets at.index slot) old (h ++ note ∷ []) (write_act (Some r)) done.plain.legal (gives_it old) refers }
 
-    pub writes : (to : Option Ref) → Stored to → {c : Painted} {mid : List Entry}
+    pub writes : (to : Option Ref) → Stored was frame to → {c : Painted} {mid : List Entry}
         → MarksIf (must_shade p.phase p.firsts p.marked to) (head_of p.firsts to) (shade_notes l to) p.colours c h mid → Written to c (mid ++ write_entry to ∷ [])
     writes None k mi = let m = mi.stays refl in rw (m.0, m.1) (stays None k refl)
     writes (Some r) k {c} {mid} mi = go (must_shade p.phase p.firsts p.marked (Some r)) refl

@@ -1,10 +1,8 @@
 -- Sweeping.
 use Rattle.std.proofs.Common.{◌≡◌, ◌≢◌, ℕ, ◌+◌, ◌<◌, ◌≤◌, ◌^◌, ◌&&◌, not, refl, sym, subst, subst₂, ap, ◌∙◌, inl, inr, zero, suc, arith, Bool, true, false, List, [], ◌∷◌, ◌++◌, length, length-append, append-nil, map, filter, ◌⊎◌, Option, Some, None}
-use Rattle.std.specs.List.{list_all}
 use Rattle.std.proofs.Math.Logic.{dite}
 use Rattle.std.proofs.Math.Decide.{dec_le}
 use Rattle.std.proofs.Math.Nat.{lt_of_not-le}
-use Rattle.std.proofs.lemmas.Bool.{and_from}
 use Rattle.std.proofs.lemmas.List.{length-map, length-take-le}
 use Rattle.std.proofs.lemmas.Grind.{flat_map-append}
 use Rattle.world_model.specs.Sizes.{Sizes, item_count}
@@ -118,6 +116,8 @@ refuses_sweep z p h budget was other =
       rows = s.rows;
       roots = s.roots;
       garbage = s.garbage;
+      strong = s.strong;
+      pairs = s.pairs;
       colours = s.colours;
       stock = s.stock;
       ends =
@@ -284,6 +284,8 @@ module _ {z : Sizes} {p : Parts} {h : List Entry} {budget looked count : ℕ} {o
         rows = s.rows;
         roots = s.roots;
         garbage = s.garbage;
+        strong = s.strong;
+        pairs = s.pairs;
         colours = s.colours;
         stock = s.stock;
         ends = record {
@@ -367,6 +369,8 @@ module _ {z : Sizes} {p : Parts} {h : List Entry} {budget looked count : ℕ} {o
     rows = s.rows;
     roots = s.roots;
     garbage = s.garbage;
+    strong = s.strong;
+    pairs = s.pairs;
     colours = record { marked_len = s.marked_len; idle = λ ne. s.idle not_marking; marks = λ e. absurd cc };
     stock = s.stock;
     ends = record {

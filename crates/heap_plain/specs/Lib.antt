@@ -6,6 +6,7 @@ pub mod Lists
 pub mod Queue
 pub mod Painted
 pub mod Stocked
+pub mod Serials
 pub mod Parts
 -- what the functions over the vectors do
 pub mod Filling
@@ -17,8 +18,9 @@ pub mod Purging
 -- what the vectors show of the state that a history leaves, in sections: each over the parts that it reads
 pub mod Gates
 pub mod Units
-pub mod Roots
 pub mod Cells
+pub mod Roots
+pub mod Pairing
 pub mod Colouring
 pub mod Stocking
 pub mod Destroying

@@ -8,6 +8,7 @@ use Rattle.world_model.specs.World.{Stage}
 use Rattle.world_model.specs.World as world
 use Rattle.world_model.specs.State as model
 use Rattle.heap_plain.specs.Queue.{Queued}
+use Rattle.heap_plain.specs.Serials.{Serials}
 use Rattle.heap_plain.specs.Painted.{Painted}
 use Rattle.heap_plain.specs.Stocked.{Stocked}
 use Rattle.heap_plain.specs.declared.life.Life.{Life}
@@ -84,6 +85,9 @@ pub record Parts : Type 0 where
   pub open rows use *
   pub roots : List Bool
   pub garbage : List Bool
+  pub strong : List (Option ℕ)
+  pub pairs : Serials
+  pub open pairs use *
   pub colours : Painted
   pub open colours use *
   pub stock : Stock

@@ -14,7 +14,8 @@ use Rattle.world_model.specs.Hooks.{ReadyTest, SameTest, AreCalledFor, Meets}
 use Rattle.heap_plain.specs.Parts.{Parts, Shown, Holds}
 use Rattle.heap_plain.specs.Gates.{Gates}
 use Rattle.heap_plain.specs.Units.{Units}
-use Rattle.heap_plain.specs.Roots.{RootsShow, GarbageShow}
+use Rattle.heap_plain.specs.Roots.{RootsShow, StrongShow, GarbageShow}
+use Rattle.heap_plain.specs.Pairing.{PairsShow}
 use Rattle.heap_plain.specs.Cells.{Cells}
 use Rattle.heap_plain.specs.Colouring.{Colouring}
 use Rattle.heap_plain.specs.Stocking.{Stocking}
@@ -28,7 +29,9 @@ pub record ShowsWorld (z : Sizes) (p : Parts) (w : World) (kept fresh black : Li
   pub open objects use *
   pub rows : Cells z p.names p.lives p.rows w.kinds w.cell w.plain
   pub open rows use *
-  pub roots : RootsShow z p.names p.roots w.rooted w.strong
+  pub roots : RootsShow z p.names p.roots w.rooted
+  pub strong : StrongShow z p.names p.lives p.strong w.strong
+  pub pairs : PairsShow z p.names p.pairs w.pairs
   pub garbage : GarbageShow z p.names p.lives p.garbage w.garbage
   pub colours : Colouring z p.phase p.objects p.colours w.units kept fresh black
   pub open colours use *

@@ -53,6 +53,10 @@ root_bit roots i = if get_or roots i false then Some i else None
 abbrev pub InRoots : List Bool → ℕ → ℕ → Type 0
 InRoots roots count t = (t < count) × (get_or roots t false ≡ true)
 
+-- which indexes the strong pointers of so many lanes hold, in rows of so many
+abbrev pub InStrong : List (Option ℕ) → ℕ → ℕ → ℕ → Type 0
+InStrong strong each lanes t = (lane : ℕ) × (number : ℕ) × (lane < lanes) × (number < each) × (target_at each strong lane number ≡ Some t)
+
 -- each of these units holds an object at one of the indexes, and was white when it was marked
 abbrev pub CanShade : List ℕ → (ℕ → Type 0) → List Bool → List ℕ → Type 0
 CanShade firsts At bits [] = Unit {0}

@@ -14,11 +14,13 @@ use crate::gate::Gate;
 use crate::life::Life;
 use crate::listing::{list_unit, list_units};
 use crate::marking::{is_done, may_end, may_start, named, starts, stop_of};
+use crate::pairing::{draws, given};
 use crate::parting::{MEMBERS, loosen};
 use crate::purging::{ask_at, begin_at, finish_at, release};
 use crate::queue::Queue;
 use crate::rooting::store;
-use crate::scanning::{shade_roots, shade_unit};
+use crate::scanning::{shade_roots, shade_strong, shade_unit};
+use crate::serials::Serials;
 use crate::stock::{Stock, full_stocks};
 use crate::storing::{index_of, name_of, referred, rooting, shade_target};
 use crate::sweeping::{find_removed, remove_white};
@@ -26,7 +28,7 @@ use std::alloc::{AllocError, Global};
 use std::marker::{Model, PhantomData};
 use world_model::{
     Begin, ClassId, Commit, CreateErr, Diary, DissolveErr, Engine, Hooks, Kind, Marked, Name, Pass,
-    Phase, Purged, Ready, Ref, Shape, SweepStop, Swept,
+    Phase, Purged, Ready, Ref, SerialsSpent, Shape, SweepStop, Swept, Weak,
 };
 
 /// The kind at an index that was never used.
@@ -86,6 +88,9 @@ pub struct PlainHeap<S: Shape> {
     done: Option<u32>,
     /// At the index of each object that lives whether it is marked as garbage.
     garbage: Vec<bool>,
+    /// The strong pointers, a row for each lane: the index of the object that one names.
+    strong: Vec<Option<u32>>,
+    serials: Serials,
     diary: Diary,
     shape: PhantomData<S>,
 }
@@ -105,6 +110,8 @@ impl<S: Shape> Model for PlainHeap<S> {
       rows = record { kinds = h.kinds.items; targets = h.targets.items; plains = h.plains.items };
       roots = h.roots.items;
       garbage = h.garbage.items;
+      strong = h.strong.items;
+      pairs = h.serials;
       colours = h.colours;
       stock = record { stocks = h.stocks.items; made = h.made.items };
       ends = record { left = h.left; swept = h.swept; queue = h.queue; polls = h.polls.items; waiting = h.waiting.items; done = h.done };
@@ -142,6 +149,8 @@ impl<S: Shape> PlainHeap<S> {
             waiting: filled(alloc, items, 0)?,
             done: None,
             garbage: filled(alloc, items, false)?,
+            strong: filled(alloc, lanes * S::STRONG as usize, None)?,
+            serials: Serials::new(alloc, items, lanes)?,
             diary: Diary::new(alloc)?,
             shape: PhantomData,
         })
@@ -261,6 +270,47 @@ impl<S: Shape> Engine<S> for PlainHeap<S> {
         store(&mut self.roots, index, lane, at.name, on, &mut self.diary)
     }
 
+    fn set_strong(&mut self, lane: u32, h: u32, to: Option<Ref>) -> Option<Ref> {
+        let place = lane as usize * S::STRONG as usize + h as usize;
+        shade_target(
+            self.gate.phase(),
+            to,
+            lane,
+            &self.firsts,
+            &mut self.colours,
+            &mut self.diary,
+        );
+        let old = referred(&self.names, self.strong[place]);
+        self.strong[place] = index_of(to);
+        self.diary
+            .set_strong(Pass::Lane(lane), h, name_of(to), name_of(old));
+        old
+    }
+
+    fn get_strong(&mut self, lane: u32, h: u32) -> Option<Ref> {
+        let place = lane as usize * S::STRONG as usize + h as usize;
+        let got = referred(&self.names, self.strong[place]);
+        self.diary.get_strong(Pass::Lane(lane), h, name_of(got));
+        got
+    }
+
+    fn weak_of(&mut self, lane: u32, at: Ref) -> Result<Weak, SerialsSpent> {
+        if let Some(weak) = self.serials.at(at.index) {
+            self.diary.weak_of(Pass::Lane(lane), at.name, weak);
+            return Ok(weak);
+        }
+        let drawn = self.serials.draw(lane, at.index, S::SERIALS);
+        draws(lane, at.name, drawn, &mut self.diary);
+        drawn
+    }
+
+    fn resolve(&mut self, lane: u32, weak: Weak) -> Option<Ref> {
+        let found = self.serials.index(weak);
+        let got = given(&self.names, &self.lives, &self.garbage, found);
+        self.diary.resolve(Pass::Lane(lane), weak, name_of(got));
+        got
+    }
+
     fn dissolve(&mut self, lane: u32, at: Ref) -> Result<u32, DissolveErr> {
         match self.gate.phase() {
             Phase::Marking => {
@@ -349,6 +399,15 @@ impl<S: Shape> Engine<S> for PlainHeap<S> {
                 &self.names,
                 &self.firsts,
                 &self.roots,
+                &mut self.colours,
+                &mut self.diary,
+            );
+            shade_strong(
+                &self.names,
+                &self.firsts,
+                &self.strong,
+                S::LANES as usize,
+                S::STRONG as usize,
                 &mut self.colours,
                 &mut self.diary,
             );
@@ -462,6 +521,7 @@ impl<S: Shape> Engine<S> for PlainHeap<S> {
                 self.left -= size;
                 self.diary
                     .released(Pass::Collector, named(&self.names, head as usize));
+                self.serials.clear(&self.next, head, size);
                 release(
                     &mut self.names,
                     &mut self.lives,

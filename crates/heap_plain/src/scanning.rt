@@ -4,7 +4,7 @@ ghost use Rattle.heap_plain.specs.Types.{Collector};
 ghost use Rattle.heap_plain.specs.Parts.{name_at, first_at, kind_at, target_at};
 ghost use Rattle.heap_plain.specs.Painted.{IsWorklist};
 ghost use Rattle.heap_plain.specs.Listing.{chained};
-ghost use Rattle.heap_plain.specs.Shading.{InRoots, InRow, InUnit, Shades, root_bit};
+ghost use Rattle.heap_plain.specs.Shading.{InRoots, InRow, InStrong, InUnit, Shades, root_bit};
 
 use crate::colours::Colours;
 use crate::marking::named;
@@ -126,5 +126,37 @@ pub(crate) fn shade_roots(
     for i in 0..roots.len() {
         let root = root_bit(roots, i);
         shade(names, firsts, root, Pass::Collector, colours, diary);
+    }
+}
+
+/// Marks the units of all objects that strong pointers name. Each lane has a row of `each` of them.
+pub(crate) fn shade_strong(
+    names: &[Option<Name>],
+    firsts: &[u32],
+    strong: &[Option<u32>],
+    lanes: usize,
+    each: usize,
+    colours: &mut Colours,
+    diary: &mut Diary,
+)
+    requires rows { lanes * each ≤ length strong.now }
+    requires target { (t : ℕ) → InStrong strong.now each lanes t → t < length firsts.now }
+    requires heads { (i : ℕ) → first_at firsts.now i < length colours.old.marked }
+    requires named { (t : ℕ) → InStrong strong.now each lanes t → IsSome (name_at names.now (first_at firsts.now t)) }
+    requires fits { IsWorklist colours.old }
+    ensures { Shades names.now firsts.now (InStrong strong.now each lanes) Collector colours.old colours.new diary.old diary.new }
+{
+    for lane in 0..lanes {
+        let row = lane * each;
+        shade_row(
+            names,
+            firsts,
+            strong,
+            row,
+            each,
+            Pass::Collector,
+            colours,
+            diary,
+        );
     }
 }

@@ -53,7 +53,7 @@ pair_found w n weak e = go (find (λ p. same_name n p.name) w.pairs) refl e
     go None f e = absurd cc
     go (Some p) f e = let found = find_some (λ p. same_name n p.name) w.pairs p f in (p, found.0, sym (same_name_true n p.name found.1), cc)
 
-none_named : (w : World) (n : Name) → pair_of w n ≡ None → (p : Pair) → Among w.pairs p → p.name ≡ n → ⊥
+pub none_named : (w : World) (n : Name) → pair_of w n ≡ None → (p : Pair) → Among w.pairs p → p.name ≡ n → ⊥
 none_named w n e p k same = go (find (λ p. same_name n p.name) w.pairs) refl e
   where
     go : (o : Option Pair) → find (λ p. same_name n p.name) w.pairs ≡ o → option_map (λ (p : Pair). p.weak) o ≡ None → ⊥
@@ -276,10 +276,59 @@ weak_pointers_holds z lawful history legal = record {
         let found = find_some (λ q. same_weak weak q.weak) w.pairs q e in
         absurd (never q.name (subst (λ (x : Weak). WasGiven history q.name x) (sym (same_weak_true weak q.weak found.1)) (given.known q found.0)))
 
+-- ---- what a pair gives
+
+-- the pair that an object has
+pub has_pair : {z : Sizes} {w : World} → ArePairs z w → (p : Pair) → Among w.pairs p → pair_of w p.name ≡ Some p.weak
+has_pair {z} {w} are p k = go (pair_of w p.name) refl
+  where
+    go : (o : Option Weak) → pair_of w p.name ≡ o → o ≡ Some p.weak
+    go None e = absurd (none_named w p.name e p k refl)
+    go (Some weak) e =
+        let found = pair_found w p.name weak e in
+        ap Some (sym found.3 ∙ ap (λ (q : Pair). q.weak) (are.by_name found.0 p found.1 k found.2))
+
+-- the pair of an object gives it, while it lives and is not garbage
+pub pair_gives : (z : Sizes) → IsLawful z → (history : List Entry) → Legal z history → (n : Name) (weak : Weak) → pair_of (after history) n ≡ Some weak
+    → resolved (after history) weak ≡ (if is_given (after history) n then Some n else None)
+pair_gives z lawful history legal n weak e =
+    let found = pair_found (after history) n weak e in
+    let given = (pairs_given z history legal).known found.0 found.1 in
+    (weak_pointers_holds z lawful history legal).own n weak
+    (subst (λ (x : Weak). WasGiven history n x) found.3 (subst (λ (m : Name). WasGiven history m found.0.weak) found.2 given))
+
+-- what is the pair of no object that lives gives none
+pub no_pair_gives : (z : Sizes) → IsLawful z → (history : List Entry) → Legal z history → (weak : Weak)
+    → ((n : Name) → in_world (after history) n ≡ true → pair_of (after history) n ≡ Some weak → ⊥) → resolved (after history) weak ≡ None
+no_pair_gives z lawful history legal weak none = go (find (λ q. same_weak weak q.weak) w.pairs) refl
+  where
+    w : World
+    w = after history
+
+    go : (o : Option Pair) → find (λ q. same_weak weak q.weak) w.pairs ≡ o → option_and_then (λ (q : Pair). if is_given w q.name then Some q.name else None) o ≡ None
+    go None e = refl
+    go (Some q) e = out (in_world w q.name) refl
+      where
+        found : Among w.pairs q × (same_weak weak q.weak ≡ true)
+        found = find_some (λ r. same_weak weak r.weak) w.pairs q e
+
+        out : (b : Bool) → in_world w q.name ≡ b → (if b && not (w.garbage q.name) then Some q.name else None) ≡ None
+        out false lives = refl
+        out true lives =
+            absurd (none q.name lives (has_pair (pairs z lawful history legal) q found.0 ∙ ap Some (sym (same_weak_true weak q.weak found.1))))
+
+-- no pair has the serial 0
+pub some_serial : (z : Sizes) → IsLawful z → (history : List Entry) → Legal z history → (n : Name) (weak : Weak) → pair_of (after history) n ≡ Some weak → 0 < weak.serial
+some_serial z lawful history legal n weak e =
+    let found = pair_found (after history) n weak e in
+    let serial = (pairs z lawful history legal).serials found.0 found.1 in
+    let same : found.0.weak.serial ≡ weak.serial = ap (λ (x : Weak). x.serial) found.3 in
+    omega (arith, serial.2)
+
 -- ---- what does not live
 
 -- what has a pair was made
-pair_made : (z : Sizes) (history : List Entry) → Legal z history → (p : Pair) → Among (after history).pairs p → IsMade (after history) p.name
+pub pair_made : (z : Sizes) (history : List Entry) → Legal z history → (p : Pair) → Among (after history).pairs p → IsMade (after history) p.name
 pair_made z = by_states z (λ s. (p : Pair) → Among s.world.pairs p → IsMade s.world p.name) (λ p k. absurd k)
     (λ xs e legal may h p k. step (state_of xs) e may (sound z xs legal) (barred z xs legal) h p (was_pair z (state_of xs) e.pass e.act p may k))
   where

@@ -1,7 +1,7 @@
 -- The words of an engine's contract. An engine means two things: its history, and for each lane the references that its open frame holds.
 use Rattle.std.specs.Prelude.{◌≢◌, ◌<◌, ◌≤◌, ◌+◌, ◌*◌, ℕ, Bool, true, false, not, List, length, Option, option_map, Result, Ok, Err, IsTrue}
 use Rattle.std.specs.List.{list_any}
-use Rattle.world_model.specs.Types.{Name, Ref, Kind, Pass, Lane, Marker, CreateErr, DissolveErr, Act, Entry}
+use Rattle.world_model.specs.Types.{Name, Ref, Kind, Pass, Lane, Marker, Weak, CreateErr, DissolveErr, SerialsSpent, Act, Entry}
 use Rattle.world_model.specs.Types.act
 use Rattle.world_model.specs.Types.create
 use Rattle.world_model.specs.Sizes.{Sizes}
@@ -51,6 +51,11 @@ act_of_refusal asked (create.NamesSpent left) = act.NamesSpent asked left
 abbrev pub act_of_dissolve : Name → Result ℕ DissolveErr → Act
 act_of_dissolve at (Ok count) = act.Dissolve at count
 act_of_dissolve at (Err refused) = act.NoDissolve at
+
+-- the act of asking for a weak pointer, by its answer
+abbrev pub act_of_weak : Name → Result Weak SerialsSpent → Act
+act_of_weak at (Ok pair) = act.WeakOf at pair
+act_of_weak at (Err spent) = act.NoSerial at spent.made
 
 -- the act of a creation of these kinds, by its answer
 abbrev pub act_of_create : {T : Type 0} → World → ℕ → List Kind → Result T CreateErr → Act

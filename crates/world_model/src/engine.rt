@@ -11,13 +11,13 @@ ghost use Rattle.world_model.specs.LaneSteps.{is_lawful};
 ghost use Rattle.world_model.specs.Histories.{state_of, after, Legal};
 ghost use Rattle.world_model.specs.Calls.{Appends};
 ghost use Rattle.world_model.specs.Hooks.{SameTest, AreCalled, MeetTest};
-ghost use Rattle.world_model.specs.Engines.{IsInFrame, IsOfLane, no_slice, KeepsHeld, KeepsOthers, act_of_create, act_of_dissolve, name_of};
+ghost use Rattle.world_model.specs.Engines.{IsInFrame, IsOfLane, no_slice, KeepsHeld, KeepsOthers, act_of_create, act_of_dissolve, act_of_weak, name_of};
 
 use crate::hooks::Hooks;
 use crate::kind::Kind;
-use crate::name::{Name, Ref};
+use crate::name::{Name, Ref, Weak};
 use crate::pass::Phase;
-use crate::reply::{Begin, Commit, CreateErr, DissolveErr, Marked, Purged, Swept};
+use crate::reply::{Begin, Commit, CreateErr, DissolveErr, Marked, Purged, SerialsSpent, Swept};
 use crate::shape::Shape;
 
 /// A world of objects, whichever way it is kept.
@@ -135,6 +135,47 @@ pub trait Engine<S: Shape> {
         requires frame { IsInFrame S.sizes (history self.old) lane }
         requires at { holds self.old lane at }
         ensures entries { Appends S.sizes (history self.old) (history self.new) (Lane lane) (act.Root at.name on result) }
+        ensures held { KeepsHeld (holds self.old) (holds self.new) };
+
+    /// Writes a strong pointer of the lane, and tells what stood there, which is held from then on. `h` is
+    /// the number of the pointer, below the shape's. What a strong pointer names is reached, as what
+    /// is rooted is, until the lane that owns the pointer writes it again.
+    ///
+    /// While a collection marks, the unit of `to` is marked before it is stored, as in `write_ref`.
+    fn set_strong(&mut self, lane: u32, h: u32, to: Option<Ref>) -> Option<Ref>
+        requires frame { IsInFrame S.sizes (history self.old) lane }
+        requires number { h < S.sizes.strong }
+        requires to { IfSome to (holds self.old lane) }
+        ensures entries { Appends S.sizes (history self.old) (history self.new) (Lane lane) (act.SetStrong h (name_of to) (name_of result)) }
+        ensures given { IfSome result (holds self.new lane) }
+        ensures held { KeepsHeld (holds self.old) (holds self.new) };
+
+    /// Reads a strong pointer of the lane. `h` is its number, below the shape's. The object that is
+    /// found is held from then on.
+    fn get_strong(&mut self, lane: u32, h: u32) -> Option<Ref>
+        requires frame { IsInFrame S.sizes (history self.old) lane }
+        requires number { h < S.sizes.strong }
+        ensures entries { Appends S.sizes (history self.old) (history self.new) (Lane lane) (act.GetStrong h (name_of result)) }
+        ensures given { IfSome result (holds self.new lane) }
+        ensures held { KeepsHeld (holds self.old) (holds self.new) };
+
+    /// The weak pointer to an object: the same one for all who ask, made with the next serial of the
+    /// lane that asks first. It keeps nothing alive, and may be kept anywhere, for ever.
+    ///
+    /// It is refused with `SerialsSpent` where the object has none and the lane has drawn all its
+    /// serials.
+    fn weak_of(&mut self, lane: u32, at: Ref) -> Result<Weak, SerialsSpent>
+        requires frame { IsInFrame S.sizes (history self.old) lane }
+        requires at { holds self.old lane at }
+        ensures entries { Appends S.sizes (history self.old) (history self.new) (Lane lane) (act_of_weak at.name result) }
+        ensures held { KeepsHeld (holds self.old) (holds self.new) };
+
+    /// The object for which a weak pointer was made, while it lives and is not garbage; it is held
+    /// from then on. Any other pair of numbers gives none, also one that was never made.
+    fn resolve(&mut self, lane: u32, weak: Weak) -> Option<Ref>
+        requires frame { IsInFrame S.sizes (history self.old) lane }
+        ensures entries { Appends S.sizes (history self.old) (history self.new) (Lane lane) (act.Resolve weak (name_of result)) }
+        ensures given { IfSome result (holds self.new lane) }
         ensures held { KeepsHeld (holds self.old) (holds self.new) };
 
     /// Takes the unit of an object apart, so that each of its members is a unit by itself, and tells

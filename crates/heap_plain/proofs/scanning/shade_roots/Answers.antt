@@ -12,7 +12,9 @@ shade-requires c =
     record {
       target = λ t e. omega (arith, (at t (sym c.root_bit-root.ensures ∙ e)).0);
       heads = λ k. omega (arith, c.requires.heads k, shades_len c.loop-i.invariant);
-      named = λ t e. c.requires.named t (omega (arith, (at t (sym c.root_bit-root.ensures ∙ e)).0), ap (λ (x : ℕ). get_or c.args.roots.now x false) (at t (sym c.root_bit-root.ensures ∙ e)).0 ∙ (at t (sym c.root_bit-root.ensures ∙ e)).1);
+      named = λ t e.
+          let root = at t (sym c.root_bit-root.ensures ∙ e) in
+          c.requires.named t (omega (arith, root.0), ap (λ (x : ℕ). get_or c.args.roots.now x false) root.0 ∙ root.1);
       fits = c.loop-i.invariant.fits;
     }
 

@@ -12,4 +12,5 @@ loop-i-preserved c =
     let below : c.loop-i.i < length c.args.lives.now.items = omega (arith, c.loop-i-test.true, c.len-i-end.ensures) in
     let life : c.index.result.now ≡ life_at c.loop-i.lives.items c.loop-i.i = get_or_read c.loop-i.lives.items _ _ (omega (arith, below, c.loop-i.invariant.len)) c.index.ensures Free in
     removes_more _ _ _ _ _ _ c.loop-i.invariant below
-    (c.without.ensures ∙ ap (λ (b : Bool). without c.index.result.now b) c.is_marked.ensures ∙ ap (λ (x : Life). without x (get_or c.args.colours.now.marked (first_at c.args.firsts.now c.loop-i.i) false)) life)
+    (c.without.ensures ∙ ap (λ (b : Bool). without c.index.result.now b) c.is_marked.ensures
+    ∙ ap (λ (x : Life). without x (get_or c.args.colours.now.marked (first_at c.args.firsts.now c.loop-i.i) false)) life)

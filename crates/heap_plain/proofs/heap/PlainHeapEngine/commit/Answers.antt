@@ -15,7 +15,8 @@ invariant_of-self g c =
     let facts = done_facts _ _ _ _ m (sym c.is_done.ensures ∙ c.if-is_done.true) in
     let count : c.len-items.result ≡ length c.self.inside.polls.items = omega (arith, c.len-items.ensures, c.self.inside.polls.ok.0) in
     let removes = rw c.deref-then-is_done.ensures.value at c.remove_white.ensures in
-    rw (c.commit_gc.ensures, facts.0, c.enter.ensures, c.clear.ensures) (commits c.self.invariant facts.1 facts.2 facts.3 removes (rw count at c.fill.ensures) (rw c.deref.ensures.value at c.copy.ensures)).plain
+    rw (c.commit_gc.ensures, facts.0, c.enter.ensures, c.clear.ensures)
+    (commits c.self.invariant facts.1 facts.2 facts.3 removes (rw count at c.fill.ensures) (rw c.deref.ensures.value at c.copy.ensures)).plain
 
 pub returns-then-is_done-clause-entries : goal.returns-then-is_done-clause-entries
 returns-then-is_done-clause-entries g c =

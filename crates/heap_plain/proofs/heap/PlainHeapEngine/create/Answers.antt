@@ -114,6 +114,8 @@ creation : (g : Over) (c : goal.After-make g) → Creation g.S.Shape.sizes (reco
   rows = record { kinds = c.self.inside.kinds.items; targets = c.self.inside.targets.items; plains = c.self.inside.plains.items };
   roots = c.self.inside.roots.items;
   garbage = c.self.inside.garbage.items;
+  strong = c.self.inside.strong.items;
+  pairs = c.self.inside.serials;
   colours = c.self.inside.colours;
   stock = record { stocks = c.self.inside.stocks.items; made = c.self.inside.made.items };
   ends =

@@ -58,7 +58,9 @@ loop-left-init g c =
     get_or_read c.self.inside.firsts.items _ _ (omega (arith, below, s.units.firsts_len)) c.index-head.ensures 0 in
     let count : c.index-count.result.now ≡ get_or c.self.inside.sizes.items (first_at c.self.inside.firsts.items c.args.at.index) 0 =
     get_or_read c.self.inside.sizes.items _ _ (omega (arith, under, s.units.sizes_len)) (rw head at c.index-count.ensures) 0 in
-    rw (← c.self.view_is, head, count) (starts c.self.invariant frame held c.requires.own (λ e. c.in_default.not-Marking (c.phase.ensures ∙ e)) _ _ (rw (c.deref.ensures.value, head, count) at c.list_unit.ensures) (room c.self.invariant frame held c.requires.own))
+    rw (← c.self.view_is, head, count)
+    (starts c.self.invariant frame held c.requires.own (λ e. c.in_default.not-Marking (c.phase.ensures ∙ e)) _ _
+    (rw (c.deref.ensures.value, head, count) at c.list_unit.ensures) (room c.self.invariant frame held c.requires.own))
 
 pub named-requires : goal.named-requires
 named-requires g c =

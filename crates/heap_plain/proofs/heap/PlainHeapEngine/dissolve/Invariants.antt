@@ -9,6 +9,8 @@ invariant-loop-left g l = IsParting g.S.Shape.sizes l.fn.self l.lane l.at.name l
   rows = record { kinds = l.self-inside.kinds.items; targets = l.self-inside.targets.items; plains = l.self-inside.plains.items };
   roots = l.self-inside.roots.items;
   garbage = l.self-inside.garbage.items;
+  strong = l.self-inside.strong.items;
+  pairs = l.self-inside.serials;
   colours = l.self-inside.colours;
   stock = record { stocks = l.self-inside.stocks.items; made = l.self-inside.made.items };
   ends =

@@ -66,6 +66,18 @@ named-requires g c =
     let i = c.loop-steps.invariant.purging in
     rw (c.deref-in-Some-done.ensures.value) (release_named i c.if-self-gt0.true c.in_default-begin.ensures.1 c.in-Some-done.head c.in-Some-done.is (omega (arith, g.S.Shape.lawful.few_items)))
 
+pub clear-requires : goal.clear-requires
+clear-requires g c =
+    let i = c.loop-steps.invariant.purging in
+    let few : item_count g.S.Shape.sizes < 2 ^ 32 = omega (arith, g.S.Shape.lawful.few_items) in
+    let below = release_below i c.if-self-gt0.true c.in_default-begin.ensures.1 c.in-Some-done.head c.in-Some-done.is few in
+    let size : c.index-size.result.now ≡ get_or c.loop-steps.self-inside.sizes.items c.in-Some-done.head 0 =
+    get_or_read c.loop-steps.self-inside.sizes.items _ _ (omega (arith, below, i.shows.units.sizes_len)) c.index-size.ensures 0 in
+    rw (c.deref-in-Some-done-2.ensures.value, size) (record {
+      chain = release_chain i c.if-self-gt0.true c.in_default-begin.ensures.1 c.in-Some-done.head c.in-Some-done.is few;
+      items = omega (arith, i.shows.units.links_len, i.shows.pairs.len);
+    })
+
 pub release-requires : goal.release-requires
 release-requires g c =
     let i = c.loop-steps.invariant.purging in
@@ -73,7 +85,7 @@ release-requires g c =
     let below = release_below i c.if-self-gt0.true c.in_default-begin.ensures.1 c.in-Some-done.head c.in-Some-done.is few in
     let size : c.index-size.result.now ≡ get_or c.loop-steps.self-inside.sizes.items c.in-Some-done.head 0 =
     get_or_read c.loop-steps.self-inside.sizes.items _ _ (omega (arith, below, i.shows.units.sizes_len)) c.index-size.ensures 0 in
-    rw (c.deref-in-Some-done-2.ensures.value, size) (record {
+    rw (c.deref-in-Some-done-3.ensures.value, size) (record {
       chain = release_chain i c.if-self-gt0.true c.in_default-begin.ensures.1 c.in-Some-done.head c.in-Some-done.is few;
       can = release_can i c.if-self-gt0.true c.in_default-begin.ensures.1 c.in-Some-done.head c.in-Some-done.is few;
     })
@@ -85,9 +97,9 @@ loop-steps-preserved-in-Some-done g c =
     let below = release_below i c.if-self-gt0.true c.in_default-begin.ensures.1 c.in-Some-done.head c.in-Some-done.is few in
     let size : c.index-size.result.now ≡ get_or c.loop-steps.self-inside.sizes.items c.in-Some-done.head 0 =
     get_or_read c.loop-steps.self-inside.sizes.items _ _ (omega (arith, below, i.shows.units.sizes_len)) c.index-size.ensures 0 in
-    let t = rw (c.deref-in-Some-done-2.ensures.value, size) at c.release.ensures in
+    let t = rw (c.deref-in-Some-done-3.ensures.value, size) at c.release.ensures in
     let name = rw (c.deref-in-Some-done.ensures.value) at c.named.ensures in
-    rw (c.released.ensures, c.in_default-begin.ensures.0) (record {
+    rw (c.released.ensures, c.in_default-begin.ensures.0, c.clear.ensures, c.deref-in-Some-done-2.ensures.value) (record {
       within = omega (arith, c.loop-steps-test.true);
       purging = purge_released i c.if-self-gt0.true c.in_default-begin.ensures.1 c.in-Some-done.head c.in-Some-done.is few c.named.result name c.index-size.result.now size _ t;
     })

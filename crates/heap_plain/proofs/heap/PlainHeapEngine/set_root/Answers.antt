@@ -1,7 +1,8 @@
 use Rattle.std.proofs.Common.{refl, arith}
 use Rattle.heap_plain.proofs.Resting.{keeps}
 use Rattle.heap_plain.proofs.RootSteps.{index_below, sets_root}
-use Rattle.heap_plain.proofs.StoreSteps.{stored_index, stored_room, stored_root}
+use Rattle.heap_plain.proofs.StoreSteps.{stored_root}
+use Rattle.heap_plain.proofs.Handing.{stored_index, stored_room}
 use Rattle.heap_plain.proofs.heap.PlainHeapEngine.set_root.Goals as goal
 
 pub shade_target-requires : goal.shade_target-requires
@@ -10,9 +11,9 @@ shade_target-requires g c =
     let held = rw (← c.self.view_is) at c.requires.at in
     let s = c.self.invariant.shows in
     rw (c.phase.ensures, c.deref.ensures.value, c.rooting.ensures) (record {
-      index = stored_index c.self.invariant frame held _ (stored_root c.self.invariant frame held c.args.on);
+      index = stored_index c.self.invariant frame _ (stored_root c.self.invariant frame held c.args.on);
       heads = λ i. omega (arith, s.units.in_range i, s.marked_len);
-      room = stored_room c.self.invariant frame held _ (stored_root c.self.invariant frame held c.args.on);
+      room = stored_room c.self.invariant frame _ (stored_root c.self.invariant frame held c.args.on);
     })
 
 pub store-requires : goal.store-requires

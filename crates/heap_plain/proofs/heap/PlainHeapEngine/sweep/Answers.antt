@@ -7,7 +7,9 @@ pub invariant_of-self : goal.invariant_of-self
 invariant_of-self g c = rw (c.sweep.ensures, c.phase-phase.ensures) (refuses_sweep _ _ _ _ c.self.invariant (λ e. c.in_default.not-Gathering (c.phase-phase.ensures ∙ e))).plain
 
 pub returns-in_default-clause-entries : goal.returns-in_default-clause-entries
-returns-in_default-clause-entries g c = rw (← c.self.view_is, c.sweep.ensures, c.phase-phase.ensures) (refuses_sweep _ _ _ _ c.self.invariant (λ e. c.in_default.not-Gathering (c.phase-phase.ensures ∙ e))).entries
+returns-in_default-clause-entries g c =
+    rw (← c.self.view_is, c.sweep.ensures, c.phase-phase.ensures)
+    (refuses_sweep _ _ _ _ c.self.invariant (λ e. c.in_default.not-Gathering (c.phase-phase.ensures ∙ e))).entries
 
 pub returns-in_default-clause-held : goal.returns-in_default-clause-held
 returns-in_default-clause-held g c = let entries = rw (← c.self.view_is) at (returns-in_default-clause-entries g c) in rw (← c.self.view_is) (keeps entries refl _)

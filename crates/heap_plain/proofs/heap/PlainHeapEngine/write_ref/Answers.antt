@@ -2,7 +2,8 @@ use Rattle.std.proofs.Common.{◌≡◌, refl, None, arith}
 use Rattle.std.proofs.lemmas.List.{get_or_read}
 use Rattle.heap_plain.specs.Parts.{target_at}
 use Rattle.heap_plain.proofs.Resting.{keeps}
-use Rattle.heap_plain.proofs.StoreSteps.{ref_below, target_place, target_named, stored_index, stored_room, writes}
+use Rattle.heap_plain.proofs.StoreSteps.{ref_below, target_place, target_named, writes}
+use Rattle.heap_plain.proofs.Handing.{stored_index, stored_room}
 use Rattle.heap_plain.proofs.heap.PlainHeapEngine.write_ref.Goals as goal
 
 pub shade_target-requires : goal.shade_target-requires
@@ -11,9 +12,9 @@ shade_target-requires g c =
     let held = rw (← c.self.view_is) at c.requires.at in
     let to = rw (← c.self.view_is) at c.requires.to in
     rw (c.phase.ensures, c.deref.ensures.value) (record {
-      index = stored_index c.self.invariant frame held c.args.to to;
+      index = stored_index c.self.invariant frame c.args.to to;
       heads = λ i. omega (arith, c.self.invariant.shows.units.in_range i, c.self.invariant.shows.marked_len);
-      room = stored_room c.self.invariant frame held c.args.to to;
+      room = stored_room c.self.invariant frame c.args.to to;
     })
 
 pub index-requires : goal.index-requires
