@@ -16,11 +16,13 @@ use world_model::{
     Shape, Small, SweepStop, Swept, Weak,
 };
 
+/// The empty weak pointer.
 const EMPTY: Weak = Weak {
     index: 0,
     serial: 0,
 };
 
+/// The pair of these numbers, whether an object has it or not.
 fn pair(index: u32, serial: u32) -> Weak {
     Weak { index, serial }
 }
@@ -30,6 +32,7 @@ fn it(count: u64) -> Option<Name> {
     Some(named(count))
 }
 
+/// The name behind a reference, if there is one.
 fn name_of(to: Option<Ref>) -> Option<Name> {
     match to {
         Some(to) => Some(to.name),
@@ -451,7 +454,9 @@ fn what_a_strong_pointer_is_given_while_a_collection_marks_lives(
 
 /// A level whose last strong pointer of lane 0 names an object, behind which 7,999 others stand in a
 /// chain.
-fn deep(rt: &impl Abort, alloc: Global) -> Result<PlainHeap<Level>, Fail> {
+fn deep(rt: &impl Abort, alloc: Global) -> Result<PlainHeap<Level>, Fail>
+    ensures { IfOk result (λ h. (after h.history).opened ≡ []) }
+{
     let mut heap = PlainHeap::<Level>::new(alloc)?;
     assert_eq!(rt; heap.open_frame(0), Phase::Idle);
     let first = chain(rt, &mut heap)?;
@@ -468,7 +473,10 @@ fn nothing_removed(
     budget: u32,
     slices: u32,
     each: Marked,
-) -> Result<(), Fail> {
+) -> Result<(), Fail>
+    requires closed { (after heap.old.history).opened ≡ [] }
+    ensures closed { OnOk result ((after heap.new.history).opened ≡ []) }
+{
     let mut found = [NOBODY; 4];
     assert_eq!(rt; heap.begin(), Begin::Started);
     for n in 0..slices {
@@ -491,6 +499,29 @@ fn nothing_removed(
     Ok(())
 }
 
+/// Clears that strong pointer, and looks that a collection removes the whole chain.
+fn all_removed(rt: &impl Abort, heap: &mut PlainHeap<Level>) -> Result<(), Fail>
+    requires closed { (after heap.old.history).opened ≡ [] }
+{
+    let mut found = [NOBODY; 64];
+    assert_eq!(rt; heap.open_frame(0), Phase::Idle);
+    assert_eq!(rt; name_of(heap.set_strong(0, 63, None)), it(8000));
+    heap.close_frame(0);
+    assert_eq!(rt; heap.begin(), Begin::Started);
+    let none = Marked {
+        scanned: 0,
+        stop: MarkStop::Idle,
+    };
+    assert_eq!(rt; heap.mark(0, 1), none);
+    assert_eq!(rt; heap.commit(), Commit::Done);
+    for n in 0..126 {
+        let _ = n;
+        heap.sweep(100000, &mut found);
+    }
+    assert_eq!(rt; heap.left(), 8000);
+    Ok(())
+}
+
 #[test]
 fn a_chain_behind_a_strong_pointer_lives_whatever_the_slices(rt: HostRuntime) -> Result<(), Fail> {
     let mut heap = deep(&rt, rt.alloc())?;
@@ -503,7 +534,8 @@ fn a_chain_behind_a_strong_pointer_lives_whatever_the_slices(rt: HostRuntime) ->
         scanned: 8000,
         stop: MarkStop::Idle,
     };
-    nothing_removed(&rt, &mut heap, 100000, 1, all)
+    nothing_removed(&rt, &mut heap, 100000, 1, all)?;
+    all_removed(&rt, &mut heap)
 }
 
 /// The limits of a world with one index, which each object gets in its turn.
