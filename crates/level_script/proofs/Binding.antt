@@ -1,5 +1,5 @@
 -- A variable is bound exactly where a line binds it and none behind closes the frame.
-use Rattle.std.proofs.Common.{◌≡◌, ℕ, zero, suc, ◌+◌, ◌<◌, ◌≤◌, ◌==◌, inl, inr, arith, refl, sym, ap, ◌∙◌, Bool, true, false, cond, not, ◌&&◌, ◌||◌, List, [], ◌∷◌, ◌++◌, length, get_or, replicate, Option, Some, None, Result, Ok, Err, ◌⊎◌}
+use Rattle.std.proofs.Common.{◌≡◌, ℕ, zero, suc, ◌+◌, ◌<◌, ◌≤◌, ◌==◌, inl, inr, arith, refl, sym, ap, subst, ◌∙◌, Bool, true, false, cond, not, ◌&&◌, ◌||◌, List, [], ◌∷◌, ◌++◌, length, get_or, replicate, Option, Some, None, Result, Ok, Err, ◌⊎◌}
 use Rattle.std.specs.Prelude.{nat_lt, slice_get, position}
 use Rattle.std.specs.List.{list_all, list_any, position_or_len}
 use Rattle.std.specs.Str.{bytes_eq, is_utf8}
@@ -15,8 +15,8 @@ use Rattle.class_schema.specs.Table.{find_class, added, field_added}
 use Rattle.class_schema.specs.declared.field.FieldKind.{FieldKind}
 use Rattle.class_schema.specs.declared.refusal.SchemaErr.{SchemaErr}
 use Rattle.level_script.specs.Commands.{pair_of, class_names, class_told, class_line, count_of, field_of, two_names, field_said, field_elements, field_told, field_line, said_by_words, said_by_line}
-use Rattle.level_script.specs.Context.{start, with_classes, with_named, elements_in, kind_found, field_known, field_counted, with_lane, lane_at, lane_of, if_said, after_line}
-use Rattle.level_script.specs.Following.{is_bound_by, binds_name, is_close, says_of, line_of, IsBoundBy, BoundByLines}
+use Rattle.level_script.specs.Context.{start, with_classes, with_named, more_weaks, elements_in, kind_found, field_known, field_counted, with_lane, lane_at, lane_of, if_said, after_line}
+use Rattle.level_script.specs.Following.{is_bound_by, binds_name, is_close, says_of, line_of, IsBoundBy, BoundByLines, is_weak_by, says_weak, binds_weak, WeakByLines}
 use Rattle.level_script.specs.Forms.{identifier_of, is_comment}
 use Rattle.level_script.specs.LaneCommands.{frame_of}
 use Rattle.level_script.specs.Lanes.{closed_lane, bound_var, if_bound, with_bound, with_frame, command_found, left_by, with_command, lane_step, lane_index}
@@ -33,6 +33,7 @@ use Rattle.level_script.specs.declared.said.FieldOf.{FieldOf}
 use Rattle.level_script.specs.declared.said.Said.{Said}
 use Rattle.level_script.specs.declared.said.Said.TheVariants as said
 use Rattle.level_script.specs.declared.lane_cmd.LaneCmd.{LaneCmd}
+use Rattle.level_script.specs.declared.tables.Tables.{Tables}
 use Rattle.level_script.specs.declared.operand.Binds.{Binds}
 use Rattle.level_script.specs.declared.operand.Binds.TheVariants as binds
 use Rattle.level_script.specs.declared.operand.Frame.{Frame}
@@ -258,10 +259,12 @@ module _ (lane : LaneNames) (name : List ℕ) where
   framed_bound frame.Opens = not_closed (is_bound lane name)
   framed_bound frame.Closes = bound_none (number_of_name lane.names name) ∙ closed (is_bound lane name)
   framed_bound frame.Inside = not_closed (is_bound lane name)
+  framed_bound frame.Anywhere = not_closed (is_bound lane name)
 
   binds_more : (b : Binds) (l : LaneNames) → is_bound (with_bound b l) name ≡ (is_bound l name || is_bound_by name b)
   binds_more binds.Nothing l = nothing_more (is_bound l name)
   binds_more (binds.Var var) l = bound_more l.opened l var name
+  binds_more (binds.Weak weak) l = nothing_more (is_bound l name)
 
   found_tells : (what : Does) (o : Option LaneCmd) → Tells (bound_by name what (is_bound lane name)) (with_command (left_by what lane) o)
   found_tells what None = fails _ cause.UnknownName
@@ -269,59 +272,64 @@ module _ (lane : LaneNames) (name : List ℕ) where
       tells _ _ command (binds_more what.binds (with_frame (frame_of what.verb) lane) ∙ ap (λ (b : Bool). b || binds_name name what) (framed_bound (frame_of what.verb)))
 
   -- Each thing that a lane does binds the names that it says, and a close ends all.
-  step_tells : (classes : List Class) (fields : List (List ℕ)) (what : Does) → Tells (bound_by name what (is_bound lane name)) (lane_step classes fields lane what)
-  step_tells classes fields what =
-      either _ (is_in_range what.first && is_in_range what.second) _ _
-      (either _ (allows (frame_of what.verb) lane.opened) _ _ (found_tells what (command_found classes fields lane what)) (fails _ cause.Frame)) (fails _ cause.Number)
+  step_tells : (t : Tables) (what : Does) → Tells (bound_by name what (is_bound lane name)) (lane_step t lane what)
+  step_tells t what =
+      either _ (is_in_range t.strong what.first && is_in_range t.strong what.second) _ _
+      (either _ (allows (frame_of what.verb) lane.opened) _ _ (found_tells what (command_found t lane what)) (fails _ cause.Frame)) (fails _ cause.Number)
 
 -- ---- a line
 
--- a line of the header says nothing of a lane
-class_names_quiet : (index : ℕ) (such : Does → Bool) (o p : Option (List ℕ)) → says_of index such (class_names o p) ≡ false
-class_names_quiet index such None p = refl
-class_names_quiet index such (Some name) None = refl
-class_names_quiet index such (Some name) (Some parent) = refl
+-- A test of what a line says fails for a fault and for the lines of the header.
+module _ (test : Result Said Cause → Bool) (err : (why : Cause) → test (Err why) ≡ false) (no_class : (name parent : List ℕ) → test (Ok (said.Class name parent)) ≡ false)
+    (no_field : (class name : List ℕ) (what : FieldOf) (count : Option (Option ℕ)) → test (Ok (said.Field class name what count)) ≡ false) where
+  class_names_quiet : (o p : Option (List ℕ)) → test (class_names o p) ≡ false
+  class_names_quiet None p = err cause.Words
+  class_names_quiet (Some name) None = err cause.Words
+  class_names_quiet (Some name) (Some parent) = no_class name parent
 
-class_told_quiet : (index : ℕ) (such : Does → Bool) (o : Option (List ℕ × List ℕ)) → says_of index such (class_told o) ≡ false
-class_told_quiet index such None = refl
-class_told_quiet index such (Some (name, parent)) = class_names_quiet index such (identifier_of name) (identifier_of parent)
+  class_told_quiet : (o : Option (List ℕ × List ℕ)) → test (class_told o) ≡ false
+  class_told_quiet None = err cause.Words
+  class_told_quiet (Some (name, parent)) = class_names_quiet (identifier_of name) (identifier_of parent)
 
-class_quiet : (index : ℕ) (such : Does → Bool) (in_header : Bool) (words : List (List ℕ)) → says_of index such (class_line in_header words) ≡ false
-class_quiet index such false words = refl
-class_quiet index such true words = class_told_quiet index such (pair_of words)
+  class_quiet : (in_header : Bool) (words : List (List ℕ)) → test (class_line in_header words) ≡ false
+  class_quiet false words = err cause.UnknownCommand
+  class_quiet true words = class_told_quiet (pair_of words)
 
-field_said_quiet : (index : ℕ) (such : Does → Bool) (class name : List ℕ) (what : FieldOf) (r : Result (Option (Option ℕ)) Cause) → says_of index such (field_said class name what r) ≡ false
-field_said_quiet index such class name what (Ok count) = refl
-field_said_quiet index such class name what (Err why) = refl
+  field_said_quiet : (class name : List ℕ) (what : FieldOf) (r : Result (Option (Option ℕ)) Cause) → test (field_said class name what r) ≡ false
+  field_said_quiet class name what (Ok count) = no_field class name what count
+  field_said_quiet class name what (Err why) = err why
 
-field_elements_quiet : (index : ℕ) (such : Does → Bool) (class name : List ℕ) (o : Option (FieldOf × List (List ℕ))) → says_of index such (field_elements class name o) ≡ false
-field_elements_quiet index such class name None = refl
-field_elements_quiet index such class name (Some (what, words)) = field_said_quiet index such class name what (count_of words)
+  field_elements_quiet : (class name : List ℕ) (o : Option (FieldOf × List (List ℕ))) → test (field_elements class name o) ≡ false
+  field_elements_quiet class name None = err cause.Words
+  field_elements_quiet class name (Some (what, words)) = field_said_quiet class name what (count_of words)
 
-field_told_quiet : (index : ℕ) (such : Does → Bool) (o : Option (List ℕ × List ℕ × List (List ℕ))) → says_of index such (field_told o) ≡ false
-field_told_quiet index such None = refl
-field_told_quiet index such (Some (class, name, words)) = field_elements_quiet index such class name (field_of words)
+  field_told_quiet : (o : Option (List ℕ × List ℕ × List (List ℕ))) → test (field_told o) ≡ false
+  field_told_quiet None = err cause.Words
+  field_told_quiet (Some (class, name, words)) = field_elements_quiet class name (field_of words)
 
-field_quiet : (index : ℕ) (such : Does → Bool) (in_header : Bool) (words : List (List ℕ)) → says_of index such (field_line in_header words) ≡ false
-field_quiet index such false words = refl
-field_quiet index such true words = field_told_quiet index such (two_names words)
+  field_quiet : (in_header : Bool) (words : List (List ℕ)) → test (field_line in_header words) ≡ false
+  field_quiet false words = err cause.UnknownCommand
+  field_quiet true words = field_told_quiet (two_names words)
 
--- a choice of two pairs of answers that say the same
-alike : (index : ℕ) (such : Does → Bool) (b : Bool) (r s t u : Result Said Cause) → says_of index such r ≡ says_of index such t → says_of index such s ≡ says_of index such u
-    → says_of index such (cond b r s) ≡ says_of index such (cond b t u)
-alike index such true r s t u x y = x
-alike index such false r s t u x y = y
+  -- a choice of two pairs of answers that say the same
+  alike : (b : Bool) (r s t u : Result Said Cause) → test r ≡ test t → test s ≡ test u → test (cond b r s) ≡ test (cond b t u)
+  alike true r s t u x y = x
+  alike false r s t u x y = y
+
+  -- what a line says by the test is the same in the header and after it
+  words_alike : (in_header : Bool) (words : List (List ℕ)) → test (said_by_words in_header words) ≡ test (said_by_words false words)
+  words_alike in_header [] = refl
+  words_alike in_header (word ∷ words) =
+      alike (is_comment word) _ _ _ _ refl
+      (alike (bytes_eq word (codes "class")) _ _ _ _ (class_quiet in_header words ∙ sym (class_quiet false words))
+      (alike (bytes_eq word (codes "field")) _ _ _ _ (field_quiet in_header words ∙ sym (field_quiet false words)) refl))
+
+  test_alike : (in_header : Bool) (line : List ℕ) → test (said_by_line in_header line) ≡ test (said_by_line false line)
+  test_alike in_header line = alike (is_utf8 line) _ _ _ _ (words_alike in_header (line_words line)) refl
 
 -- what a line says of a lane is the same in the header and after it
-words_alike : (index : ℕ) (such : Does → Bool) (in_header : Bool) (words : List (List ℕ)) → says_of index such (said_by_words in_header words) ≡ says_of index such (said_by_words false words)
-words_alike index such in_header [] = refl
-words_alike index such in_header (word ∷ words) =
-    alike index such (is_comment word) _ _ _ _ refl
-    (alike index such (bytes_eq word (codes "class")) _ _ _ _ (class_quiet index such in_header words ∙ sym (class_quiet index such false words))
-    (alike index such (bytes_eq word (codes "field")) _ _ _ _ (field_quiet index such in_header words ∙ sym (field_quiet index such false words)) refl))
-
 line_alike : (index : ℕ) (such : Does → Bool) (in_header : Bool) (line : List ℕ) → says_of index such (said_by_line in_header line) ≡ line_of index such line
-line_alike index such in_header line = alike index such (is_utf8 line) _ _ _ _ (words_alike index such in_header (line_words line)) refl
+line_alike index such in_header line = test_alike (says_of index such) (λ why. refl) (λ name parent. refl) (λ class name what count. refl) in_header line
 
 -- what is bound of a name in a lane after a line that says this
 abbrev said_bound : ℕ → List ℕ → Result Said Cause → Bool → Bool
@@ -339,31 +347,39 @@ leaves_same : (index : ℕ) (name : List ℕ) (r : Result Said Cause) (c next : 
 leaves_same index name r c next no_close no_bind same left e =
     (left, sym (ap (λ (ls : List LaneNames). slice_get ls index) same) ∙ e, kept (is_bound left name) ∙ (λ i. (is_bound left name && not (sym no_close i)) || sym no_bind i))
 
-with_classes_leaves : (c next : Context) (r : Result Schema SchemaErr) → with_classes c r ≡ Ok next → next.lanes ≡ c.lanes
-with_classes_leaves c next (Ok classes) e = sym (ap (λ (d : Context). d.lanes) (ok_same e))
+-- the lanes and the weak variables are what they were
+abbrev Same : Context → Context → Type 0
+Same c next = (next.lanes ≡ c.lanes) × (next.tables.weaks ≡ c.tables.weaks)
+
+same_ok : {E : Type 0} (c d next : Context) → Same c d → ◌≡◌ {A = Result Context E} (Ok d) (Ok next) → Same c next
+same_ok c d next h e = subst (Same c) (ok_same e) h
+
+with_classes_leaves : (c next : Context) (r : Result Schema SchemaErr) → with_classes c r ≡ Ok next → Same c next
+with_classes_leaves c next (Ok classes) e = same_ok c _ next (refl, refl) e
 with_classes_leaves c next (Err why) e = err_ok e
 
-with_named_leaves : (c next : Context) (name : List ℕ) (r : Result Schema SchemaErr) → with_named c name r ≡ Ok next → next.lanes ≡ c.lanes
-with_named_leaves c next name (Ok classes) e = sym (ap (λ (d : Context). d.lanes) (ok_same e))
+with_named_leaves : (c next : Context) (name : List ℕ) (r : Result Schema SchemaErr) → with_named c name r ≡ Ok next → Same c next
+with_named_leaves c next name (Ok classes) e = same_ok c _ next (refl, refl) e
 with_named_leaves c next name (Err why) e = err_ok e
 
-field_leaves : (c next : Context) (number : ℕ) (name : List ℕ) (count : ℕ) (class : Option ClassId) (what : Option FieldKind)
-    → field_known number c name count class what ≡ Ok next → next.lanes ≡ c.lanes
+field_leaves : (c next : Context) (number : ℕ) (name : List ℕ) (count : ℕ) (class : Option ClassId) (what : Option FieldKind) → field_known number c name count class what ≡ Ok next → Same c next
 field_leaves c next number name count None what e = err_ok e
 field_leaves c next number name count (Some class) None e = err_ok e
-field_leaves c next number name count (Some class) (Some what) e = with_named_leaves c next name (field_added c.classes class (record { name = name; line = number; kind = what; count = count })) e
+field_leaves c next number name count (Some class) (Some what) e =
+    with_named_leaves c next name (field_added c.tables.classes class (record { name = name; line = number; kind = what; count = count })) e
 
-counted_leaves : (c next : Context) (number : ℕ) (class name : List ℕ) (what : FieldOf) (o : Option ℕ) → field_counted number c class name what o ≡ Ok next → next.lanes ≡ c.lanes
+counted_leaves : (c next : Context) (number : ℕ) (class name : List ℕ) (what : FieldOf) (o : Option ℕ) → field_counted number c class name what o ≡ Ok next → Same c next
 counted_leaves c next number class name what None e = err_ok e
-counted_leaves c next number class name what (Some count) e = field_leaves c next number name count (find_class c.classes.classes class) (kind_found c.classes.classes what) e
+counted_leaves c next number class name what (Some count) e =
+    field_leaves c next number name count (find_class c.tables.classes.classes class) (kind_found c.tables.classes.classes what) e
 
 -- a lane's line
 eq_other : (i k : ℕ) → (i ≡ k → ⊥) → (i == k) ≡ false
 eq_other i k ne = false_from_ne_true _ (λ e. ne (eqb-true i k e))
 
 step_leaves : (index : ℕ) (name : List ℕ) (number at : ℕ) (what : Does) (c next : Context) (lane : LaneNames) (r : Result (LaneNames × LaneCmd) Cause)
-    → slice_get c.lanes at ≡ Some lane → lane_step c.classes.classes c.fields lane what ≡ r
-    → with_lane number c at r ≡ Ok next → Leaves index name (Ok (said.Lane (Some at) what)) c next
+    → slice_get c.lanes at ≡ Some lane → lane_step c.tables lane what ≡ r
+    → with_lane number c at what.binds r ≡ Ok next → Leaves index name (Ok (said.Lane (Some at) what)) c next
 step_leaves index name number at what c next lane (Err why) is step e = err_ok e
 step_leaves index name number at what c next lane (Ok (now, command)) is step e = λ left there.
     go left (set_cases c.lanes at index now left (ap (λ (d : Context). slice_get d.lanes index) (ok_same e) ∙ there))
@@ -374,7 +390,7 @@ step_leaves index name number at what c next lane (Ok (now, command)) is step e 
         let own : (at == index) ≡ true = eq-eqb at index (sym here) in (
           lane,
           ap (slice_get c.lanes) here ∙ is,
-          ap (λ (l : LaneNames). is_bound l name) is_now ∙ step_tells lane name c.classes.classes c.fields what now command step
+          ap (λ (l : LaneNames). is_bound l name) is_now ∙ step_tells lane name c.tables what now command step
               ∙ (λ i. (is_bound lane name && not (sym own i && is_close what)) || (sym own i && binds_name name what)),
         )
     go left (inr (other, stays)) =
@@ -384,7 +400,7 @@ step_leaves index name number at what c next lane (Ok (now, command)) is step e 
 lane_leaves : (index : ℕ) (name : List ℕ) (number at : ℕ) (what : Does) (c next : Context) (o : Option LaneNames) → slice_get c.lanes at ≡ o
     → lane_at number c at o what ≡ Ok next → Leaves index name (Ok (said.Lane (Some at) what)) c next
 lane_leaves index name number at what c next None is e = err_ok e
-lane_leaves index name number at what c next (Some lane) is e = step_leaves index name number at what c next lane (lane_step c.classes.classes c.fields lane what) is refl e
+lane_leaves index name number at what c next (Some lane) is e = step_leaves index name number at what c next lane (lane_step c.tables lane what) is refl e
 
 index_leaves : (index : ℕ) (name : List ℕ) (number : ℕ) (what : Does) (c next : Context) (o : Option ℕ)
     → lane_of number c (lane_index (length c.lanes) o) what ≡ Ok next → Leaves index name (Ok (said.Lane o what)) c next
@@ -399,10 +415,10 @@ said_leaves : (index : ℕ) (name : List ℕ) (number : ℕ) (c next : Context) 
 said_leaves index name number c next (Err why) e = err_ok e
 said_leaves index name number c next (Ok said.Nothing) e = leaves_same index name (Ok said.Nothing) c next refl refl (sym (ap (λ (d : Context). d.lanes) (ok_same e)))
 said_leaves index name number c next (Ok (said.Class class parent)) e =
-    leaves_same index name (Ok (said.Class class parent)) c next refl refl (with_classes_leaves c next (added c.classes number class parent) e)
+    leaves_same index name (Ok (said.Class class parent)) c next refl refl (with_classes_leaves c next (added c.tables.classes number class parent) e).0
 said_leaves index name number c next (Ok (said.Field class field what count)) e =
     leaves_same index name (Ok (said.Field class field what count)) c next refl refl
-    (counted_leaves c next number class field what (elements_in count) e)
+    (counted_leaves c next number class field what (elements_in count) e).0
 said_leaves index name number c next (Ok said.Full) e = leaves_same index name (Ok said.Full) c next refl refl (sym (ap (λ (d : Context). d.lanes) (ok_same e)))
 said_leaves index name number c next (Ok (said.Lane lane what)) e = index_leaves index name number what c next lane e
 
@@ -492,3 +508,79 @@ bound_by_lines_holds limits lines c read index lane there name =
     from : StillOr index name false lines → IsBoundBy index name lines
     from (inl h) = absurd (let wrong : false ≡ true = h.0 in cc)
     from (inr h) = h
+
+-- ---- weak variables
+
+-- one more name is known, and the others are what they were
+name_more : (names : List (List ℕ)) (var name : List ℕ) → is_some (number_of_name (with_name names var) name) ≡ (is_some (number_of_name names name) || bytes_eq name var)
+name_more names var name = go (bytes_eq name var) refl
+  where
+    or_last : (b : Bool) → true ≡ (b || true)
+    or_last true = refl
+    or_last false = refl
+
+    go : (b : Bool) → bytes_eq name var ≡ b → is_some (number_of_name (with_name names var) name) ≡ (is_some (number_of_name names name) || b)
+    go true e =
+        ap (λ (n : List ℕ). is_some (number_of_name (with_name names var) n)) (same_bytes name var e)
+        ∙ ap (λ (o : Option ℕ). is_some o) (found_new names var) ∙ or_last (is_some (number_of_name names name))
+    go false e = ap (λ (o : Option ℕ). is_some o) (found_other names var name e) ∙ nothing_more (is_some (number_of_name names name))
+
+weak_more : (b : Binds) (weaks : List (List ℕ)) (name : List ℕ) → is_some (number_of_name (more_weaks b weaks) name) ≡ (is_some (number_of_name weaks name) || is_weak_by name b)
+weak_more binds.Nothing weaks name = nothing_more (is_some (number_of_name weaks name))
+weak_more (binds.Var var) weaks name = nothing_more (is_some (number_of_name weaks name))
+weak_more (binds.Weak weak) weaks name = name_more weaks weak name
+
+-- whether a weak variable is known
+abbrev is_weak : Context → List ℕ → Bool
+is_weak c name = is_some (number_of_name c.tables.weaks name)
+
+module _ (name : List ℕ) (number : ℕ) (c next : Context) where
+  same_weak : Same c next → is_weak next name ≡ (is_weak c name || false)
+  same_weak h = ap (λ (ns : List (List ℕ)). is_some (number_of_name ns name)) h.1 ∙ nothing_more (is_weak c name)
+
+  with_lane_weak : (at : ℕ) (b : Binds) (r : Result (LaneNames × LaneCmd) Cause) → with_lane number c at b r ≡ Ok next → is_weak next name ≡ (is_weak c name || is_weak_by name b)
+  with_lane_weak at b (Err why) e = err_ok e
+  with_lane_weak at b (Ok (lane, command)) e = sym (ap (λ (d : Context). is_weak d name) (ok_same e)) ∙ weak_more b c.tables.weaks name
+
+  lane_at_weak : (at : ℕ) (what : Does) (o : Option LaneNames) → lane_at number c at o what ≡ Ok next → is_weak next name ≡ (is_weak c name || is_weak_by name what.binds)
+  lane_at_weak at what None e = err_ok e
+  lane_at_weak at what (Some lane) e = with_lane_weak at what.binds (lane_step c.tables lane what) e
+
+  lane_of_weak : (what : Does) (o : Option ℕ) → lane_of number c o what ≡ Ok next → is_weak next name ≡ (is_weak c name || is_weak_by name what.binds)
+  lane_of_weak what None e = err_ok e
+  lane_of_weak what (Some at) e = lane_at_weak at what (slice_get c.lanes at) e
+
+  said_weak : (r : Result Said Cause) → if_said number c r ≡ Ok next → is_weak next name ≡ (is_weak c name || says_weak name r)
+  said_weak (Err why) e = err_ok e
+  said_weak (Ok said.Nothing) e = same_weak (same_ok c c next (refl, refl) e)
+  said_weak (Ok (said.Class class parent)) e = same_weak (with_classes_leaves c next (added c.tables.classes number class parent) e)
+  said_weak (Ok (said.Field class field what count)) e = same_weak (counted_leaves c next number class field what (elements_in count) e)
+  said_weak (Ok said.Full) e = same_weak (same_ok c _ next (refl, refl) e)
+  said_weak (Ok (said.Lane lane what)) e = lane_of_weak what (lane_index (length c.lanes) lane) e
+
+line_weak : (name : List ℕ) (number : ℕ) (c next : Context) (line : List ℕ) → after_numbered number c line ≡ Ok next → is_weak next name ≡ (is_weak c name || binds_weak name line)
+unfolding after_numbered
+line_weak name number c next line e =
+    said_weak name number c next (said_by_line c.in_header line) (short_enough (nat_lt 200000 number) (after_line number c line) next e)
+    ∙ ap (λ (b : Bool). is_weak c name || b) (test_alike (says_weak name) (λ why. refl) (λ class parent. refl) (λ class field what count. refl) c.in_header line)
+
+or_assoc : (a b c : Bool) → ((a || b) || c) ≡ (a || (b || c))
+or_assoc true b c = refl
+or_assoc false b c = refl
+
+lines_weak : (name : List ℕ) (lines : List (List ℕ)) (number : ℕ) (c last : Context) → read_from number c lines ≡ Ok last → is_weak last name ≡ (is_weak c name || list_any (binds_weak name) lines)
+unfolding read_from
+lines_weak name [] number c last e = sym (ap (λ (d : Context). is_weak d name) (ok_same e)) ∙ nothing_more (is_weak c name)
+lines_weak name (line ∷ lines) number c last e =
+    let h = on_ok number (after_numbered number c line) (λ next. read_from (number + 1) next lines) last e in
+    lines_weak name lines (number + 1) h.0 last h.2
+    ∙ ap (λ (b : Bool). b || list_any (binds_weak name) lines) (line_weak name number c h.0 line h.1)
+    ∙ or_assoc (is_weak c name) (binds_weak name line) (list_any (binds_weak name) lines)
+
+-- at first no name is known
+no_weak : (name : List ℕ) → is_some (number_of_name [] name) ≡ false
+unfolding number_of_name
+no_weak name = refl
+
+pub weak_by_lines_holds : WeakByLines
+weak_by_lines_holds limits lines c read name = lines_weak name lines 1 (start limits) c read ∙ ap (λ (b : Bool). b || list_any (binds_weak name) lines) (no_weak name)

@@ -1,7 +1,7 @@
 -- The lines of a script fit where they stand.
 use Rattle.std.proofs.Common.{◌≡◌, ℕ, ◌+◌, ◌<◌, ◌≤◌, zero, suc, List, [], ◌∷◌, ◌++◌, refl, sym, ap, ◌∙◌, subst, Bool, true, false, not, ◌&&◌, ◌||◌, cond, map, length, get_or, replicate, arith, Option, Some, None, option_map, Result, Ok, Err}
 use Rattle.std.specs.Prelude.{nat_lt, slice_get, slice_set, position, slice_index, slice_index_or}
-use Rattle.std.specs.List.{position_or_len, list_any}
+use Rattle.std.specs.List.{position_or_len, list_any, list_all}
 use Rattle.std.specs.Result.{result_ok}
 use Rattle.std.specs.Str.{bytes_eq}
 use Rattle.std.proofs.lemmas.Bool.{ltb-true, lt-ltb}
@@ -16,13 +16,13 @@ use Rattle.class_schema.specs.Table.{find_class, added, admitted, added_below, c
 use Rattle.class_schema.specs.declared.field.FieldKind.{FieldKind}
 use Rattle.class_schema.specs.declared.refusal.SchemaErr.{SchemaErr}
 use Rattle.level_script.specs.Commands.{said_by_line}
-use Rattle.level_script.specs.Context.{start, with_line, with_classes, with_named, elements_in, kind_found, field_known, field_counted, with_lane, lane_at, lane_of, after_said, if_said, after_line, script_from}
-use Rattle.level_script.specs.Frames.{opened_after, fits_lane, fits, frames_after, are_framed, IsAtOnce, IsNamed, IsPlayable}
+use Rattle.level_script.specs.Context.{start, with_line, with_classes, with_named, more_weaks, with_weak, elements_in, kind_found, field_known, field_counted, with_lane, lane_at, lane_of, after_said, if_said, after_line, script_from}
+use Rattle.level_script.specs.Frames.{opened_after, fits_lane, fits_script, fits, frames_after, are_framed, IsAtOnce, IsNamed, IsPlayable}
 use Rattle.level_script.specs.Forms.{is_identifier}
 use Rattle.level_script.proofs.Naming.{SaysName, SaysNameIfOk, identifier_bytes, line_says}
-use Rattle.level_script.specs.LaneCommands.{frame_of, of_both, command_of, frame_by}
-use Rattle.level_script.specs.Lanes.{closed_lane, count_of, bound_var, if_bound, with_bound, known_bound, with_frame, spot_with, spot_found, bound_target, known_of, command_known, command_found, left_by, with_command, lane_step, lane_index}
-use Rattle.level_script.specs.Operands.{allows, opened_by, element_in, is_in_range, var_known, target_known, class_known, spot_known, switch_known, value_known, fits_spot, fits_target, fits_known}
+use Rattle.level_script.specs.LaneCommands.{frame_of, of_both, command_of, frame_by, beside_by}
+use Rattle.level_script.specs.Lanes.{closed_lane, count_of, bound_var, if_bound, with_bound, known_bound, with_frame, spot_with, spot_found, bound_target, weak_target, known_of, command_known, command_found, left_by, with_command, lane_step, lane_index}
+use Rattle.level_script.specs.Operands.{allows, opened_by, below, element_in, is_in_range, var_known, target_known, class_known, spot_known, switch_known, value_known, strong_known, index_known, weak_known, weak_target_known, fits_spot, fits_target, fits_known, fits_beside}
 use Rattle.level_script.specs.Lines.{input_lines}
 use Rattle.level_script.specs.Names.{number_of_name, number_in, with_name, has_number}
 use Rattle.level_script.specs.Reading.{after_numbered, read_from, read_on, fault_at, outcome_of, script_of, script_of_lines}
@@ -55,6 +55,7 @@ use Rattle.level_script.specs.declared.script.Spot.{Spot}
 use Rattle.level_script.specs.declared.operand.Place.{Place}
 use Rattle.level_script.specs.declared.said.FieldOf.{FieldOf}
 use Rattle.level_script.specs.declared.script.Script.{Script}
+use Rattle.level_script.specs.declared.tables.Tables.{Tables}
 
 -- ---- answers
 
@@ -146,13 +147,14 @@ pub and_both : (a b : Bool) → a ≡ true → b ≡ true → (a && b) ≡ true
 and_both a b e f = (λ t. e t && f t)
 
 -- what a step of a lane does to its frame and its variables, and that its command fits
-record StepFacts (classes : List Class) (fields : List (List ℕ)) (lane left : LaneNames) (command : LaneCmd) : Type 0 where
+record StepFacts (t : Tables) (lane left : LaneNames) (what : Does) (command : LaneCmd) : Type 0 where
   opened : left.opened ≡ opened_after command lane.opened
   grows : count_of lane ≤ count_of left
-  fit : (vars count names : ℕ) → count_of left ≤ vars → length classes ≤ count → length fields ≤ names → fits_lane vars count names lane.opened command ≡ true
+  fit : (vars count names : ℕ) → count_of left ≤ vars → length t.classes.classes ≤ count → length t.fields ≤ names → fits_lane vars count names lane.opened command ≡ true
+  beside : (weaks : ℕ) → length (more_weaks what.binds t.weaks) ≤ weaks → list_all (fits_beside weaks t.strong) (beside_by command) ≡ true
 
-abbrev FactsOf : List Class → List (List ℕ) → LaneNames → LaneNames × LaneCmd → Type 0
-FactsOf classes fields lane (left, command) = StepFacts classes fields lane left command
+abbrev FactsOf : Tables → LaneNames → Does → LaneNames × LaneCmd → Type 0
+FactsOf t lane what (left, command) = StepFacts t lane left what command
 
 -- a variable that is bound has its number
 if_bound_some : (bound : List ℕ) (o : Option ℕ) (n : ℕ) → if_bound bound o ≡ Some n → o ≡ Some n
@@ -200,68 +202,121 @@ target_fits lane (Some name) target vars e few = go (bound_var lane name) refl e
     go None is e = absurd cc
     go (Some n) is e = subst (λ (t : Option ℕ). fits_target vars t ≡ true) (some_same e) (below_true n (count_of lane) vars (bound_below lane name n is) few)
 
--- what a word stands for is there, where there are no fewer variables, classes and names
-known_fits : (classes : List Class) (fields : List (List ℕ)) (lane : LaneNames) (vars count names : ℕ) → count_of lane ≤ vars → length classes ≤ count → length fields ≤ names
-    → (word : Operand) (k : Known) → known_of classes fields lane word ≡ Some k → fits_known vars count names k ≡ true
-known_fits classes fields lane vars count names few some named word k e = go word e
-  where
-    Fits : Known → Type 0
-    Fits k = fits_known vars count names k ≡ true
+-- a weak variable that is found fits too
+weak_fits : (names : List (List ℕ)) (to : Option (List ℕ)) (target : Option ℕ) (weaks : ℕ) → weak_target names to ≡ Some target → length names ≤ weaks → fits_target weaks target ≡ true
+weak_fits names None target weaks e wide = subst (λ (t : Option ℕ). fits_target weaks t ≡ true) (some_same e) refl
+weak_fits names (Some name) target weaks e wide =
+    mapped (λ (t : Option ℕ). fits_target weaks t ≡ true) Some (number_of_name names name) target
+    (λ n is. below_true n (length names) weaks (found_below names name n is) wide) e
 
-    go : (word : Operand) → known_of classes fields lane word ≡ Some k → Fits k
-    go operand.Nothing e = subst Fits (some_same e) refl
-    go (operand.Var name) e = mapped Fits known.Var (bound_var lane name) k (λ n is. below_true n (count_of lane) vars (bound_below lane name n is) few) e
-    go (operand.Target to) e = mapped Fits known.Target (bound_target lane to) k (λ t is. target_fits lane to t vars is few) e
-    go (operand.Class name) e = mapped Fits known.Class (find_class classes name) k (λ id is. below_true id.0 (length classes) count (class_below classes name id is) some) e
+-- a number below another one
+below_is : (most : ℕ) (number : Option ℕ) (n : ℕ) → below most number ≡ Some n → nat_lt n most ≡ true
+below_is most None n e = absurd cc
+below_is most (Some m) n e = go (nat_lt m most) refl e
+  where
+    go : (b : Bool) → nat_lt m most ≡ b → cond b (Some m) None ≡ Some n → nat_lt n most ≡ true
+    go true is e = subst (λ (k : ℕ). nat_lt k most ≡ true) (some_same e) is
+    go false is e = absurd cc
+
+-- a thing is there, where there are so many variables, classes, names of fields, weak variables and strong pointers
+abbrev Fits : ℕ → ℕ → ℕ → ℕ → ℕ → Known → Type 0
+Fits vars count names weaks strong k = (fits_known vars count names k ≡ true) × (fits_beside weaks strong k ≡ true)
+
+-- what a word stands for is there, where there are no fewer
+known_fits : (t : Tables) (lane : LaneNames) (vars count names weaks : ℕ) → count_of lane ≤ vars → length t.classes.classes ≤ count → length t.fields ≤ names → length t.weaks ≤ weaks
+    → (word : Operand) (k : Known) → known_of t lane word ≡ Some k → Fits vars count names weaks t.strong k
+known_fits t lane vars count names weaks few some named wide word k e = go word e
+  where
+    P : Known → Type 0
+    P k = Fits vars count names weaks t.strong k
+
+    go : (word : Operand) → known_of t lane word ≡ Some k → P k
+    go operand.Nothing e = subst P (some_same e) (refl, refl)
+    go (operand.Var name) e = mapped P known.Var (bound_var lane name) k (λ n is. (below_true n (count_of lane) vars (bound_below lane name n is) few, refl)) e
+    go (operand.Target to) e = mapped P known.Target (bound_target lane to) k (λ o is. (target_fits lane to o vars is few, refl)) e
+    go (operand.Class name) e =
+        mapped P known.Class (find_class t.classes.classes name) k (λ id is. (below_true id.0 (length t.classes.classes) count (class_below t.classes.classes name id is) some, refl)) e
     go (operand.Spot place) e =
-        mapped Fits known.Spot (spot_found lane fields place) k
-        (spot_fits lane fields place vars names few named (element_in place.element) (bound_var lane place.var) (number_of_name fields place.field) refl refl) e
-    go (operand.Switch on) e = subst Fits (some_same e) refl
-    go (operand.Value number) e = mapped Fits known.Value number k (λ n is. refl) e
+        mapped P known.Spot (spot_found lane t.fields place) k
+        (λ spot is. (spot_fits lane t.fields place vars names few named (element_in place.element) (bound_var lane place.var) (number_of_name t.fields place.field) refl refl spot is, refl)) e
+    go (operand.Switch on) e = subst P (some_same e) (refl, refl)
+    go (operand.Value number) e = mapped P known.Value number k (λ n is. (refl, refl)) e
+    go (operand.Strong number) e = mapped P known.Strong (below t.strong number) k (λ h is. (refl, below_is t.strong number h is)) e
+    go (operand.Index number) e = mapped P known.Index (element_in number) k (λ n is. (refl, refl)) e
+    go (operand.Weak name) e = mapped P known.Weak (number_of_name t.weaks name) k (λ n is. (refl, below_true n (length t.weaks) weaks (found_below t.weaks name n is) wide)) e
+    go (operand.WeakTarget to) e = mapped P known.WeakTarget (weak_target t.weaks to) k (λ o is. (refl, weak_fits t.weaks to o weaks is wide)) e
 
 -- ---- a command
 
 -- What a word stands for is there, and so is what the word's command names by it. Each command is a line of `command_fits`.
-module _ (vars count names : ℕ) where
-  abbrev Fits : Known → Type 0
-  Fits k = fits_known vars count names k ≡ true
+module _ (vars count names weaks strong : ℕ) where
+  abbrev There : Known → Type 0
+  There k = Fits vars count names weaks strong k
 
-  var_there : (k : Known) (var : ℕ) → Fits k → var_known k ≡ Some var → nat_lt var vars ≡ true
-  var_there (known.Var v) var fit e = subst (λ (n : ℕ). nat_lt n vars ≡ true) (some_same e) fit
+  var_there : (k : Known) (var : ℕ) → There k → var_known k ≡ Some var → nat_lt var vars ≡ true
+  var_there (known.Var v) var fit e = subst (λ (n : ℕ). nat_lt n vars ≡ true) (some_same e) fit.0
   var_there k var fit e = absurd cc
 
-  target_there : (k : Known) (to : Option ℕ) → Fits k → target_known k ≡ Some to → fits_target vars to ≡ true
-  target_there (known.Target t) to fit e = subst (λ (o : Option ℕ). fits_target vars o ≡ true) (some_same e) fit
+  target_there : (k : Known) (to : Option ℕ) → There k → target_known k ≡ Some to → fits_target vars to ≡ true
+  target_there (known.Target t) to fit e = subst (λ (o : Option ℕ). fits_target vars o ≡ true) (some_same e) fit.0
   target_there k to fit e = absurd cc
 
-  class_there : (k : Known) (class : ClassId) → Fits k → class_known k ≡ Some class → nat_lt class.0 count ≡ true
-  class_there (known.Class c) class fit e = subst (λ (d : ClassId). nat_lt d.0 count ≡ true) (some_same e) fit
+  class_there : (k : Known) (class : ClassId) → There k → class_known k ≡ Some class → nat_lt class.0 count ≡ true
+  class_there (known.Class c) class fit e = subst (λ (d : ClassId). nat_lt d.0 count ≡ true) (some_same e) fit.0
   class_there k class fit e = absurd cc
 
-  spot_there : (k : Known) (spot : Spot) → Fits k → spot_known k ≡ Some spot → fits_spot vars names spot ≡ true
-  spot_there (known.Spot s) spot fit e = subst (λ (t : Spot). fits_spot vars names t ≡ true) (some_same e) fit
+  spot_there : (k : Known) (spot : Spot) → There k → spot_known k ≡ Some spot → fits_spot vars names spot ≡ true
+  spot_there (known.Spot s) spot fit e = subst (λ (t : Spot). fits_spot vars names t ≡ true) (some_same e) fit.0
   spot_there k spot fit e = absurd cc
 
-  -- the command fits, and does to the frame what its word says
-  abbrev Made : Bool → Verb → LaneCmd → Type 0
-  Made opened verb command = (fits_lane vars count names opened command ≡ true) × (frame_by command ≡ frame_of verb)
+  strong_there : (k : Known) (h : ℕ) → There k → strong_known k ≡ Some h → nat_lt h strong ≡ true
+  strong_there (known.Strong g) h fit e = subst (λ (n : ℕ). nat_lt n strong ≡ true) (some_same e) fit.1
+  strong_there k h fit e = absurd cc
 
-  command_fits : (opened : Bool) (verb : Verb) (b f s : Known) (c : LaneCmd) → allows (frame_of verb) opened ≡ true → Fits b → Fits f → Fits s
+  weak_there : (k : Known) (weak : ℕ) → There k → weak_known k ≡ Some weak → nat_lt weak weaks ≡ true
+  weak_there (known.Weak w) weak fit e = subst (λ (n : ℕ). nat_lt n weaks ≡ true) (some_same e) fit.1
+  weak_there k weak fit e = absurd cc
+
+  weak_target_there : (k : Known) (to : Option ℕ) → There k → weak_target_known k ≡ Some to → fits_target weaks to ≡ true
+  weak_target_there (known.WeakTarget t) to fit e = subst (λ (o : Option ℕ). fits_target weaks o ≡ true) (some_same e) fit.1
+  weak_target_there k to fit e = absurd cc
+
+  -- the command fits, does to the frame what its word says, and names weak variables and strong pointers that are there
+  abbrev Made : Bool → Verb → LaneCmd → Type 0
+  Made opened verb command = (fits_lane vars count names opened command ≡ true) × (frame_by command ≡ frame_of verb) × (list_all (fits_beside weaks strong) (beside_by command) ≡ true)
+
+  command_fits : (opened : Bool) (verb : Verb) (b f s : Known) (c : LaneCmd) → allows (frame_of verb) opened ≡ true → There b → There f → There s
       → command_of verb b f s ≡ Some c → Made opened verb c
-  command_fits opened verb.Open b f s c may x y z e = subst (Made opened verb.Open) (some_same e) (may, refl)
-  command_fits opened verb.Close b f s c may x y z e = subst (Made opened verb.Close) (some_same e) (may, refl)
+  command_fits opened verb.Open b f s c may x y z e = subst (Made opened verb.Open) (some_same e) (may, refl, refl)
+  command_fits opened verb.Close b f s c may x y z e = subst (Made opened verb.Close) (some_same e) (may, refl, refl)
   command_fits opened verb.New b f s c may x y z e =
-      both_made (Made opened verb.New) lane_cmd.New (var_known b) (class_known f) c (λ var class v k. (and_both _ _ (and_both _ _ may (var_there b var x v)) (class_there f class y k), refl)) e
+      both_made (Made opened verb.New) lane_cmd.New (var_known b) (class_known f) c (λ var class v k. (and_both _ _ (and_both _ _ may (var_there b var x v)) (class_there f class y k), refl, refl)) e
   command_fits opened verb.Root b f s c may x y z e =
-      both_made (Made opened verb.Root) lane_cmd.Root (var_known f) (switch_known s) c (λ var on v k. (and_both _ _ may (var_there f var y v), refl)) e
+      both_made (Made opened verb.Root) lane_cmd.Root (var_known f) (switch_known s) c (λ var on v k. (and_both _ _ may (var_there f var y v), refl, refl)) e
   command_fits opened verb.Set b f s c may x y z e =
-      both_made (Made opened verb.Set) lane_cmd.Set (spot_known f) (target_known s) c (λ spot to v k. (and_both _ _ (and_both _ _ may (spot_there f spot y v)) (target_there s to z k), refl)) e
+      both_made (Made opened verb.Set) lane_cmd.Set (spot_known f) (target_known s) c (λ spot to v k. (and_both _ _ (and_both _ _ may (spot_there f spot y v)) (target_there s to z k), refl, refl)) e
   command_fits opened verb.Get b f s c may x y z e =
-      both_made (Made opened verb.Get) lane_cmd.Get (var_known b) (spot_known f) c (λ var spot v k. (and_both _ _ (and_both _ _ may (var_there b var x v)) (spot_there f spot y k), refl)) e
+      both_made (Made opened verb.Get) lane_cmd.Get (var_known b) (spot_known f) c (λ var spot v k. (and_both _ _ (and_both _ _ may (var_there b var x v)) (spot_there f spot y k), refl, refl)) e
   command_fits opened verb.Put b f s c may x y z e =
-      both_made (Made opened verb.Put) lane_cmd.Put (spot_known f) (value_known s) c (λ spot value v k. (and_both _ _ may (spot_there f spot y v), refl)) e
-  command_fits opened verb.Take b f s c may x y z e = mapped (Made opened verb.Take) lane_cmd.Take (spot_known f) c (λ spot v. (and_both _ _ may (spot_there f spot y v), refl)) e
-  command_fits opened verb.Print b f s c may x y z e = mapped (Made opened verb.Print) lane_cmd.Print (var_known f) c (λ var v. (and_both _ _ may (var_there f var y v), refl)) e
+      both_made (Made opened verb.Put) lane_cmd.Put (spot_known f) (value_known s) c (λ spot value v k. (and_both _ _ may (spot_there f spot y v), refl, refl)) e
+  command_fits opened verb.Take b f s c may x y z e = mapped (Made opened verb.Take) lane_cmd.Take (spot_known f) c (λ spot v. (and_both _ _ may (spot_there f spot y v), refl, refl)) e
+  command_fits opened verb.Print b f s c may x y z e = mapped (Made opened verb.Print) lane_cmd.Print (var_known f) c (λ var v. (and_both _ _ may (var_there f var y v), refl, refl)) e
+  command_fits opened verb.Store b f s c may x y z e =
+      both_made (Made opened verb.Store) lane_cmd.Store (spot_known f) (weak_target_known s) c (λ spot weak v k. (and_both _ _ may (spot_there f spot y v), refl, and_both _ true (weak_target_there s weak z k) refl)) e
+  command_fits opened verb.Load b f s c may x y z e =
+      both_made (Made opened verb.Load) lane_cmd.Load (weak_known b) (spot_known f) c (λ weak spot v k. (and_both _ _ may (spot_there f spot y k), refl, and_both _ true (weak_there b weak x v) refl)) e
+  command_fits opened verb.Hold b f s c may x y z e =
+      both_made (Made opened verb.Hold) lane_cmd.Hold (strong_known f) (target_known s) c (λ h to v k. (and_both _ _ may (target_there s to z k), refl, and_both _ true (strong_there f h y v) refl)) e
+  command_fits opened verb.Held b f s c may x y z e =
+      both_made (Made opened verb.Held) lane_cmd.Held (var_known b) (strong_known f) c (λ var h v k. (and_both _ _ may (var_there b var x v), refl, and_both _ true (strong_there f h y k) refl)) e
+  command_fits opened verb.Weak b f s c may x y z e =
+      both_made (Made opened verb.Weak) lane_cmd.Weak (weak_known b) (var_known f) c (λ weak var v k. (and_both _ _ may (var_there f var y k), refl, and_both _ true (weak_there b weak x v) refl)) e
+  command_fits opened verb.Resolve b f s c may x y z e =
+      both_made (Made opened verb.Resolve) lane_cmd.Resolve (var_known b) (weak_known f) c (λ var weak v k. (and_both _ _ may (var_there b var x v), refl, and_both _ true (weak_there f weak y k) refl)) e
+  command_fits opened verb.Forge b f s c may x y z e =
+      both_made (Made opened verb.Forge) lane_cmd.Forge (weak_known b) (index_known f) c (λ weak index v k. (refl, refl, and_both _ true (weak_there b weak x v) refl)) e
+  command_fits opened verb.Same b f s c may x y z e =
+      both_made (Made opened verb.Same) lane_cmd.Same (weak_known f) (weak_known s) c (λ left right v k. (refl, refl, and_both _ _ (weak_there f left y v) (and_both _ true (weak_there s right z k) refl))) e
 
 -- ---- a step
 
@@ -275,18 +330,30 @@ frame_left : (f : Frame) (lane : LaneNames) → ((with_frame f lane).opened ≡ 
 frame_left frame.Opens lane = (refl, refl)
 frame_left frame.Closes lane = (refl, refl)
 frame_left frame.Inside lane = (refl, refl)
+frame_left frame.Anywhere lane = (refl, refl)
 
 bind_left : (b : Binds) (lane : LaneNames) → ((with_bound b lane).opened ≡ lane.opened) × (count_of lane ≤ count_of (with_bound b lane))
 bind_left binds.Nothing lane = (refl, omega arith)
 bind_left (binds.Var var) lane = (refl, names_grow lane.names var)
+bind_left (binds.Weak weak) lane = (refl, omega arith)
+
+-- weak variables are never fewer
+weaks_grow : (b : Binds) (weaks : List (List ℕ)) → length weaks ≤ length (more_weaks b weaks)
+weaks_grow binds.Nothing weaks = omega arith
+weaks_grow (binds.Var var) weaks = omega arith
+weaks_grow (binds.Weak weak) weaks = names_grow weaks weak
 
 -- the variable that is bound is there
-bound_fits : (f : Frame) (b : Binds) (lane : LaneNames) (vars count names : ℕ) → count_of (with_bound b (with_frame f lane)) ≤ vars → fits_known vars count names (known_bound lane b) ≡ true
-bound_fits f binds.Nothing lane vars count names few = refl
-bound_fits f (binds.Var var) lane vars count names few =
-    let below : number_in (with_frame f lane).names var < length (with_name (with_frame f lane).names var) = number_below (with_frame f lane).names var in
-    below_true (number_in lane.names var) (length (with_name (with_frame f lane).names var)) vars
-    (subst (λ (ns : List (List ℕ)). number_in ns var < length (with_name (with_frame f lane).names var)) (frame_left f lane).1 below) few
+bound_fits : (f : Frame) (b : Binds) (t : Tables) (lane : LaneNames) (vars count names weaks : ℕ) → count_of (with_bound b (with_frame f lane)) ≤ vars → length (more_weaks b t.weaks) ≤ weaks
+    → Fits vars count names weaks t.strong (known_bound t lane b)
+bound_fits f binds.Nothing t lane vars count names weaks few wide = (refl, refl)
+bound_fits f (binds.Var var) t lane vars count names weaks few wide =
+    let below : number_in (with_frame f lane).names var < length (with_name (with_frame f lane).names var) = number_below (with_frame f lane).names var in (
+      below_true (number_in lane.names var) (length (with_name (with_frame f lane).names var)) vars
+          (subst (λ (ns : List (List ℕ)). number_in ns var < length (with_name (with_frame f lane).names var)) (frame_left f lane).1 below) few,
+      refl,
+    )
+bound_fits f (binds.Weak weak) t lane vars count names weaks few wide = (refl, below_true (number_in t.weaks weak) (length (with_name t.weaks weak)) weaks (number_below t.weaks weak) wide)
 
 -- a command that is found
 found_command : (verb : Verb) (bound : Known) (o p : Option Known) (c : LaneCmd) → command_known verb bound o p ≡ Some c
@@ -295,32 +362,36 @@ found_command verb bound None p c e = absurd cc
 found_command verb bound (Some first) None c e = absurd cc
 found_command verb bound (Some first) (Some second) c e = (first, second, refl, refl, e)
 
-found_facts : (classes : List Class) (fields : List (List ℕ)) (lane : LaneNames) (what : Does) (o : Option LaneCmd) (left : LaneNames × LaneCmd) → allows (frame_of what.verb) lane.opened ≡ true
-    → command_found classes fields lane what ≡ o → with_command (left_by what lane) o ≡ Ok left → FactsOf classes fields lane left
-found_facts classes fields lane what None left may is e = err_ok e
-found_facts classes fields lane what (Some c) left may is e =
-    let h = found_command what.verb (known_bound lane what.binds) (known_of classes fields lane what.first) (known_of classes fields lane what.second) c is in
+found_facts : (t : Tables) (lane : LaneNames) (what : Does) (o : Option LaneCmd) (left : LaneNames × LaneCmd) → allows (frame_of what.verb) lane.opened ≡ true
+    → command_found t lane what ≡ o → with_command (left_by what lane) o ≡ Ok left → FactsOf t lane what left
+found_facts t lane what None left may is e = err_ok e
+found_facts t lane what (Some c) left may is e =
+    let h = found_command what.verb (known_bound t lane what.binds) (known_of t lane what.first) (known_of t lane what.second) c is in
     let f = frame_left (frame_of what.verb) lane in
     let b = bind_left what.binds (with_frame (frame_of what.verb) lane) in
     let more : count_of lane ≤ count_of (left_by what lane) = subst (λ (ns : List (List ℕ)). length ns ≤ count_of (left_by what lane)) f.1 b.1 in
-    let fit = λ (vars count names : ℕ) (few : count_of (left_by what lane) ≤ vars) (some : length classes ≤ count) (named : length fields ≤ names).
-    command_fits vars count names lane.opened what.verb (known_bound lane what.binds) h.0 h.1 c may (bound_fits (frame_of what.verb) what.binds lane vars count names few)
-    (known_fits classes fields lane vars count names (omega (arith, more, few)) some named what.first h.0 h.2)
-    (known_fits classes fields lane vars count names (omega (arith, more, few)) some named what.second h.1 h.3) h.4 in
-    let same : frame_by c ≡ frame_of what.verb = (fit (count_of (left_by what lane)) (length classes) (length fields) (omega arith) (omega arith) (omega arith)).1 in
-    subst (FactsOf classes fields lane) (ok_same e) (record {
+    let wider = weaks_grow what.binds t.weaks in
+    let fit =
+    λ (vars count names weaks : ℕ) (few : count_of (left_by what lane) ≤ vars) (some : length t.classes.classes ≤ count) (named : length t.fields ≤ names) (wide : length (more_weaks what.binds t.weaks) ≤ weaks).
+    command_fits vars count names weaks t.strong lane.opened what.verb (known_bound t lane what.binds) h.0 h.1 c may (bound_fits (frame_of what.verb) what.binds t lane vars count names weaks few wide)
+    (known_fits t lane vars count names weaks (omega (arith, more, few)) some named (omega (arith, wider, wide)) what.first h.0 h.2)
+    (known_fits t lane vars count names weaks (omega (arith, more, few)) some named (omega (arith, wider, wide)) what.second h.1 h.3) h.4 in
+    let least : length (more_weaks what.binds t.weaks) ≤ length (more_weaks what.binds t.weaks) = omega arith in
+    let same : frame_by c ≡ frame_of what.verb =
+    (fit (count_of (left_by what lane)) (length t.classes.classes) (length t.fields) (length (more_weaks what.binds t.weaks)) (omega arith) (omega arith) (omega arith) least).1 in
+    subst (FactsOf t lane what) (ok_same e) (record {
       opened = b.0 ∙ f.0 ∙ ap (λ (g : Frame). opened_by g lane.opened) (sym same);
       grows = more;
-      fit = λ vars count names few some named. (fit vars count names few some named).0;
+      fit = λ vars count names few some named. (fit vars count names (length (more_weaks what.binds t.weaks)) few some named least).0;
+      beside = λ weaks wide. (fit (count_of (left_by what lane)) (length t.classes.classes) (length t.fields) weaks (omega arith) (omega arith) (omega arith) wide).2;
     })
 
 -- each step
-step_facts : (classes : List Class) (fields : List (List ℕ)) (lane : LaneNames) (what : Does) (left : LaneNames × LaneCmd)
-    → lane_step classes fields lane what ≡ Ok left → FactsOf classes fields lane left
-step_facts classes fields lane what left e =
-    let ranged = if_ok (is_in_range what.first && is_in_range what.second) _ cause.Number left e in
+step_facts : (t : Tables) (lane : LaneNames) (what : Does) (left : LaneNames × LaneCmd) → lane_step t lane what ≡ Ok left → FactsOf t lane what left
+step_facts t lane what left e =
+    let ranged = if_ok (is_in_range t.strong what.first && is_in_range t.strong what.second) _ cause.Number left e in
     let framed = if_ok (allows (frame_of what.verb) lane.opened) _ cause.Frame left ranged.1 in
-    found_facts classes fields lane what (command_found classes fields lane what) left framed.0 refl framed.1
+    found_facts t lane what (command_found t lane what) left framed.0 refl framed.1
 
 -- ---- lines after one another
 
@@ -350,6 +421,11 @@ framed_more vars classes fields frames (l ∷ lines) line was now =
     let parts = both (fits vars classes fields frames l.cmd) (are_framed vars classes fields (frames_after frames l.cmd) lines) was in
     (λ t. parts.0 t && framed_more vars classes fields (frames_after frames l.cmd) lines line parts.1 now t)
 
+-- one more item that passes
+all_push : {A : Type 0} (p : A → Bool) (xs : List A) (y : A) → list_all p xs ≡ true → p y ≡ true → list_all p (xs ++ y ∷ []) ≡ true
+all_push p [] y h k = and_both (p y) true k refl
+all_push p (x ∷ xs) y h k = let parts = both (p x) (list_all p xs) h in and_both _ _ parts.0 (all_push p xs y parts.1 k)
+
 -- the lanes have no more variables than these
 abbrev Within : List LaneNames → List ℕ → Type 0
 Within lanes vars = (l : ℕ) → count_of (get_or lanes l closed_lane) ≤ get_or vars l 0
@@ -358,25 +434,28 @@ Within lanes vars = (l : ℕ) → count_of (get_or lanes l closed_lane) ≤ get_
 record Good (limits : Limits) (c : Context) : Type 0 where
   lanes : length c.lanes ≡ limits.lanes
   now : frames_through (replicate limits.lanes false) c.lines ≡ map (λ lane. lane.opened) c.lanes
-  framed : (vars : List ℕ) (classes fields : ℕ) → Within c.lanes vars → length c.classes.classes ≤ classes → length c.fields ≤ fields
+  framed : (vars : List ℕ) (classes fields : ℕ) → Within c.lanes vars → length c.tables.classes.classes ≤ classes → length c.tables.fields ≤ fields
       → are_framed vars classes fields (replicate limits.lanes false) c.lines ≡ true
-  slots : c.classes.slots ≡ limits.slots
-  some : 0 < length c.classes.classes
-  at_once : AllByRecursion IsAtOnce c.classes.classes
-  named : AllByRecursion IsNamed c.classes.classes
+  strong : c.tables.strong ≡ limits.strong
+  beside : (weaks : ℕ) → length c.tables.weaks ≤ weaks → list_all (λ line. fits_script weaks limits.strong line.cmd) c.lines ≡ true
+  slots : c.tables.classes.slots ≡ limits.slots
+  some : 0 < length c.tables.classes.classes
+  at_once : AllByRecursion IsAtOnce c.tables.classes.classes
+  named : AllByRecursion IsNamed c.tables.classes.classes
 
--- a context with other lanes
-abbrev changed : Context → List LaneNames → Context
-changed c lanes = record { classes = c.classes; in_header = c.in_header; lanes = lanes; fields = c.fields; lines = c.lines }
+-- a context with other lanes, in which this is bound
+abbrev changed : Context → Binds → List LaneNames → Context
+changed c what lanes = record { tables = with_weak what c.tables; in_header = c.in_header; lanes = lanes; lines = c.lines }
 
 -- a line that fits keeps it
-good_push : (limits : Limits) (c : Context) (lanes : List LaneNames) (number : ℕ) (command : Cmd) → Good limits c → length lanes ≡ length c.lanes →
+good_push : (limits : Limits) (c : Context) (what : Binds) (lanes : List LaneNames) (number : ℕ) (command : Cmd) → Good limits c → length lanes ≡ length c.lanes →
     frames_after (map (λ lane. lane.opened) c.lanes) command ≡ map (λ lane. lane.opened) lanes →
     ((l : ℕ) → count_of (get_or c.lanes l closed_lane) ≤ count_of (get_or lanes l closed_lane)) →
-    ((vars : List ℕ) (classes names : ℕ) → Within lanes vars → length c.classes.classes ≤ classes → length c.fields ≤ names
+    ((vars : List ℕ) (classes names : ℕ) → Within lanes vars → length c.tables.classes.classes ≤ classes → length c.tables.fields ≤ names
     → fits vars classes names (map (λ lane. lane.opened) c.lanes) command ≡ true) →
-    Good limits (with_line (changed c lanes) number command)
-good_push limits c lanes number command g same frames grow fit =
+    ((weaks : ℕ) → length (more_weaks what c.tables.weaks) ≤ weaks → fits_script weaks limits.strong command ≡ true) →
+    Good limits (with_line (changed c what lanes) number command)
+good_push limits c what lanes number command g same frames grow fit wide =
     let line : Line = record { number = number; cmd = command } in
     record {
       lanes = same ∙ g.lanes;
@@ -385,6 +464,10 @@ good_push limits c lanes number command g same frames grow fit =
           framed_more vars classes names (replicate limits.lanes false) c.lines line
           (g.framed vars classes names (λ l. omega (arith, grow l, within l)) few named)
           (ap (λ f. fits vars classes names f command) g.now ∙ fit vars classes names within few named);
+      strong = g.strong;
+      beside = λ weaks few.
+          all_push (λ line. fits_script weaks limits.strong line.cmd) c.lines line
+          (g.beside weaks (let more = weaks_grow what c.tables.weaks in omega (arith, more, few))) (wide weaks few);
       slots = g.slots;
       some = g.some;
       at_once = g.at_once;
@@ -407,14 +490,14 @@ set_grows (y ∷ ys) (suc i) x h zero = omega arith
 set_grows (y ∷ ys) (suc i) x h (suc l) = set_grows ys i x h l
 
 -- a line of a lane fits
-good_lane : (limits : Limits) (c : Context) (number i : ℕ) (lane left : LaneNames) (command : LaneCmd) → Good limits c
-    → slice_get c.lanes i ≡ Some lane → StepFacts c.classes.classes c.fields lane left command →
-    Good limits (with_line (changed c (slice_set c.lanes i left)) number (cmd.Lane i command))
-good_lane limits c number i lane left command g is facts =
+good_lane : (limits : Limits) (c : Context) (number i : ℕ) (lane left : LaneNames) (what : Does) (command : LaneCmd) → Good limits c
+    → slice_get c.lanes i ≡ Some lane → StepFacts c.tables lane left what command →
+    Good limits (with_line (changed c what.binds (slice_set c.lanes i left)) number (cmd.Lane i command))
+good_lane limits c number i lane left what command g is facts =
     let there = got c.lanes i lane closed_lane is in
     let opened_here : slice_index_or (map (λ lane. lane.opened) c.lanes) i false ≡ lane.opened =
     get_or-map (λ (lane : LaneNames). lane.opened) c.lanes i closed_lane ∙ ap (λ (lane : LaneNames). lane.opened) there.1 in
-    good_push limits c (slice_set c.lanes i left) number (cmd.Lane i command) g
+    good_push limits c what.binds (slice_set c.lanes i left) number (cmd.Lane i command) g
     (length-set c.lanes i left)
     (ap (λ o. slice_set (map (λ lane. lane.opened) c.lanes) i (opened_after command o)) opened_here
     ∙ ap (slice_set (map (λ lane. lane.opened) c.lanes) i) (sym facts.opened)
@@ -424,21 +507,22 @@ good_lane limits c number i lane left command g is facts =
     let inside : nat_lt i (length (map (λ lane. lane.opened) c.lanes)) ≡ true = lt-ltb i (length (map (λ lane. lane.opened) c.lanes)) (rw length-map there.0) in
     let most : count_of left ≤ get_or vars i 0 = (let P : LaneNames → Type 0 = λ l. count_of l ≤ get_or vars i 0 in subst P (get_or-set_same c.lanes i left closed_lane there.0) (within i)) in
     (λ t. inside t && fits_lane (slice_index vars i) classes names (opened_here t) command) ∙ facts.fit (get_or vars i 0) classes names most few named)
+    (λ weaks few. subst (λ (n : ℕ). list_all (fits_beside weaks n) (beside_by command) ≡ true) g.strong (facts.beside weaks few))
 
 -- a step of a lane keeps it
 good_with_lane : (limits : Limits) (c next : Context) (number i : ℕ) (lane : LaneNames) (what : Does) (r : Result (LaneNames × LaneCmd) Cause)
-    → Good limits c → slice_get c.lanes i ≡ Some lane → lane_step c.classes.classes c.fields lane what ≡ r → with_lane number c i r ≡ Ok next
+    → Good limits c → slice_get c.lanes i ≡ Some lane → lane_step c.tables lane what ≡ r → with_lane number c i what.binds r ≡ Ok next
     → Good limits next
 good_with_lane limits c next number i lane what (Err why) g is step e = err_ok e
 good_with_lane limits c next number i lane what (Ok (left, command)) g is step e =
     subst (Good limits) (ok_same e)
-    (good_lane limits c number i lane left command g is (step_facts c.classes.classes c.fields lane what (left, command) step))
+    (good_lane limits c number i lane left what command g is (step_facts c.tables lane what (left, command) step))
 
 -- so does a line of a lane that is there
 good_lane_at : (limits : Limits) (c next : Context) (number i : ℕ) (what : Does) (o : Option LaneNames) → Good limits c → slice_get c.lanes i ≡ o
     → lane_at number c i o what ≡ Ok next → Good limits next
 good_lane_at limits c next number i what None g is e = err_ok e
-good_lane_at limits c next number i what (Some lane) g is e = good_with_lane limits c next number i lane what (lane_step c.classes.classes c.fields lane what) g is refl e
+good_lane_at limits c next number i what (Some lane) g is e = good_with_lane limits c next number i lane what (lane_step c.tables lane what) g is refl e
 
 -- and one of a number that may name a lane
 good_lane_of : (limits : Limits) (c next : Context) (number : ℕ) (what : Does) (o : Option ℕ) → Good limits c → lane_of number c o what ≡ Ok next → Good limits next
@@ -505,7 +589,7 @@ fielded_grows t more class field None e =
 
 -- a line of the header keeps it
 good_classes : (limits : Limits) (c next : Context) (r : Result Schema SchemaErr) → Good limits c
-    → ((more : Schema) → r ≡ Ok more → TableGrows c.classes more) → with_classes c r ≡ Ok next → Good limits next
+    → ((more : Schema) → r ≡ Ok more → TableGrows c.tables.classes more) → with_classes c r ≡ Ok next → Good limits next
 good_classes limits c next (Err refusal) g grows e = err_ok e
 good_classes limits c next (Ok more) g grows e =
     let t = grows more refl in
@@ -513,6 +597,8 @@ good_classes limits c next (Ok more) g grows e =
       lanes = g.lanes;
       now = g.now;
       framed = λ vars count names within few named. g.framed vars count names within (omega (arith, t.classes, few)) named;
+      strong = g.strong;
+      beside = g.beside;
       slots = t.slots ∙ g.slots;
       some = omega (arith, t.classes, g.some);
       at_once = t.at_once g.at_once;
@@ -521,14 +607,16 @@ good_classes limits c next (Ok more) g grows e =
 
 -- so does one that tells a field, whose name is known then
 good_named : (limits : Limits) (c next : Context) (name : List ℕ) (r : Result Schema SchemaErr) → Good limits c
-    → ((more : Schema) → r ≡ Ok more → TableGrows c.classes more) → with_named c name r ≡ Ok next → Good limits next
+    → ((more : Schema) → r ≡ Ok more → TableGrows c.tables.classes more) → with_named c name r ≡ Ok next → Good limits next
 good_named limits c next name (Err refusal) g grows e = err_ok e
 good_named limits c next name (Ok more) g grows e =
     let t = grows more refl in
     subst (Good limits) (ok_same e) (record {
       lanes = g.lanes;
       now = g.now;
-      framed = λ vars count names within few named. g.framed vars count names within (omega (arith, t.classes, few)) (omega (arith, names_grow c.fields name, named));
+      framed = λ vars count names within few named. g.framed vars count names within (omega (arith, t.classes, few)) (omega (arith, names_grow c.tables.fields name, named));
+      strong = g.strong;
+      beside = g.beside;
       slots = t.slots ∙ g.slots;
       some = omega (arith, t.classes, g.some);
       at_once = t.at_once g.at_once;
@@ -542,12 +630,12 @@ good_field limits c next number name count None what g e = err_ok e
 good_field limits c next number name count (Some class) None g e = err_ok e
 good_field limits c next number name count (Some class) (Some what) g e =
     let field : Declaration = record { name = name; line = number; kind = what; count = count } in
-    good_named limits c next name (field_added c.classes class field) g (λ more is. fielded_grows c.classes more class field (field_refusal c.classes class field.name field.count) is) e
+    good_named limits c next name (field_added c.tables.classes class field) g (λ more is. fielded_grows c.tables.classes more class field (field_refusal c.tables.classes class field.name field.count) is) e
 
 good_counted : (limits : Limits) (c next : Context) (number : ℕ) (class name : List ℕ) (what : FieldOf) (o : Option ℕ) → Good limits c
     → field_counted number c class name what o ≡ Ok next → Good limits next
 good_counted limits c next number class name what None g e = err_ok e
-good_counted limits c next number class name what (Some count) g e = good_field limits c next number name count (find_class c.classes.classes class) (kind_found c.classes.classes what) g e
+good_counted limits c next number class name what (Some count) g e = good_field limits c next number name count (find_class c.tables.classes.classes class) (kind_found c.tables.classes.classes what) g e
 
 -- ---- whole inputs
 
@@ -555,12 +643,12 @@ good_counted limits c next number class name what (Some count) g e = good_field 
 good_act : (limits : Limits) (c next : Context) (number : ℕ) (what : Said) → Good limits c → SaysName what → after_said number c what ≡ Ok next → Good limits next
 good_act limits c next number said.Nothing g says e = subst (Good limits) (ok_same e) g
 good_act limits c next number (said.Class name parent) g says e =
-    good_classes limits c next (added c.classes number name parent) g
-    (λ more is. added_grows c.classes more number name (admitted c.classes.classes name parent) says is) e
+    good_classes limits c next (added c.tables.classes number name parent) g
+    (λ more is. added_grows c.tables.classes more number name (admitted c.tables.classes.classes name parent) says is) e
 good_act limits c next number (said.Field class name what count) g says e = good_counted limits c next number class name what (elements_in count) g e
 good_act limits c next number said.Full g says e =
     subst (Good limits) (ok_same e)
-    (good_push limits c c.lanes number (cmd.Gc gc_cmd.Full) g refl refl (λ l. omega arith) (λ vars classes names within few named. refl))
+    (good_push limits c binds.Nothing c.lanes number (cmd.Gc gc_cmd.Full) g refl refl (λ l. omega arith) (λ vars classes names within few named. refl) (λ weaks few. refl))
 good_act limits c next number (said.Lane lane what) g says e = good_lane_of limits c next number what (lane_index (length c.lanes) lane) g e
 
 -- so does a line that says something
@@ -612,6 +700,8 @@ good_start limits =
       lanes = length_copies limits.lanes;
       now = closed_copies limits.lanes;
       framed = λ vars classes names within few named. refl;
+      strong = refl;
+      beside = λ weaks few. refl;
       slots = refl;
       some = omega arith;
       at_once = (refl, tt);
@@ -626,10 +716,11 @@ good_script limits c g = record {
   at_once = g.at_once;
   named = g.named;
   framed =
-      g.framed (map count_of c.lanes) (length c.classes.classes) (length c.fields)
+      g.framed (map count_of c.lanes) (length c.tables.classes.classes) (length c.tables.fields)
       (λ l. let same : get_or (map count_of c.lanes) l 0 ≡ count_of (get_or c.lanes l closed_lane) = get_or-map count_of c.lanes l closed_lane in
       omega (arith, same)) (omega arith) (omega arith);
   classes = g.some;
+  beside = g.beside (length c.tables.weaks) (omega arith);
 }
 
 -- so can each script of lines

@@ -1,6 +1,6 @@
 pub mod Cutting
 pub mod Forming
-pub mod Tables
+pub mod NameTables
 pub mod Taking
 pub mod Naming
 pub mod Framing

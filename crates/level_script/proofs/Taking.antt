@@ -2,32 +2,33 @@
 use Rattle.std.proofs.Common.{◌≡◌, ℕ, ◌+◌, List, [], ◌∷◌, refl, sym, ap, ◌∙◌, length, Option, Some, None, Ok, Err, MatchOption}
 use Rattle.std.specs.Prelude.{slice_get, slice_set}
 use Rattle.level_script.specs.Lanes.{lane_step, lane_index, StepsAt}
-use Rattle.level_script.specs.Context.{after_lane_line, lane_of, lane_at, with_lane, with_line}
+use Rattle.level_script.specs.Context.{after_lane_line, lane_of, lane_at, with_lane, with_line, with_weak}
 use Rattle.level_script.specs.Reading.{after_numbered, read_from, read_on, fault_at, TakesLine, ReadsLines}
 use Rattle.level_script.specs.declared.cause.ParseErr.{ParseErr}
 use Rattle.level_script.specs.declared.cause.ParseErr.TheVariants as parse
 use Rattle.level_script.specs.declared.cause.Cause.{Cause}
 use Rattle.level_script.specs.declared.context.Context.{Context}
 use Rattle.level_script.specs.declared.lanes.LaneNames.{LaneNames}
+use Rattle.level_script.specs.declared.operand.Binds.{Binds}
 use Rattle.level_script.specs.declared.said.Does.{Does}
 use Rattle.level_script.specs.declared.lane_cmd.LaneCmd.{LaneCmd}
 use Rattle.level_script.specs.declared.script.Cmd.TheVariants as cmd
 
 -- what a line of a lane leaves
-abbrev after_lane : ℕ → Context → ℕ → List LaneNames → LaneCmd → Context
-after_lane number c index lanes command = with_line (record { classes = c.classes; in_header = c.in_header; lanes = lanes; fields = c.fields; lines = c.lines }) number (cmd.Lane index command)
+abbrev after_lane : ℕ → Context → ℕ → Binds → List LaneNames → LaneCmd → Context
+after_lane number c index what lanes command = with_line (record { tables = with_weak what c.tables; in_header = c.in_header; lanes = lanes; lines = c.lines }) number (cmd.Lane index command)
 
 -- the same of a lane that is there
 at_ok : (number : ℕ) (c : Context) (index : ℕ) (does : Does) (new : List LaneNames) (command : LaneCmd) (o : Option LaneNames) →
-    MatchOption o ⊥ (λ lane. (left : LaneNames) × (new ≡ slice_set c.lanes index left) × (lane_step c.classes.classes c.fields lane does ≡ Ok (left, command))) →
-    lane_at number c index o does ≡ Ok (after_lane number c index new command)
+    MatchOption o ⊥ (λ lane. (left : LaneNames) × (new ≡ slice_set c.lanes index left) × (lane_step c.tables lane does ≡ Ok (left, command))) →
+    lane_at number c index o does ≡ Ok (after_lane number c index does.binds new command)
 at_ok number c index does new command None h = absurd h
-at_ok number c index does new command (Some lane) (left, set, step) = ap (with_lane number c index) step ∙ (λ t. Ok (after_lane number c index (sym set t) command))
+at_ok number c index does new command (Some lane) (left, set, step) = ap (with_lane number c index does.binds) step ∙ (λ t. Ok (after_lane number c index does.binds (sym set t) command))
 
 -- a lane that has done what it says makes the line
 pub lane_ok : (number : ℕ) (c : Context) (lane : Option ℕ) (does : Does) (index : ℕ) (new : List LaneNames) (command : LaneCmd) →
-    lane_index (length c.lanes) lane ≡ Some index → StepsAt c.classes.classes c.fields c.lanes index does new (Ok command) →
-    after_lane_line number c lane does ≡ Ok (after_lane number c index new command)
+    lane_index (length c.lanes) lane ≡ Some index → StepsAt c.tables c.lanes index does new (Ok command) →
+    after_lane_line number c lane does ≡ Ok (after_lane number c index does.binds new command)
 lane_ok number c lane does index new command found steps = ap (λ i. lane_of number c i does) found ∙ at_ok number c index does new command (slice_get c.lanes index) steps
 
 -- ---- lines after one another

@@ -13,6 +13,7 @@ use Rattle.level_script.specs.declared.said.Does.{Does}
 use Rattle.level_script.specs.declared.said.FieldOf.{FieldOf}
 use Rattle.level_script.specs.declared.said.FieldOf.TheVariants as of
 use Rattle.level_script.specs.declared.lane_cmd.Verb.{Verb}
+use Rattle.level_script.specs.declared.operand.Binds.{Binds}
 use Rattle.level_script.specs.declared.operand.Binds.TheVariants as binds
 use Rattle.level_script.specs.declared.operand.Form.{Form}
 use Rattle.level_script.specs.declared.operand.Operand.{Operand}
@@ -139,21 +140,22 @@ does_two verb one two None = None
 does_two verb one two (Some (first, second)) = does_parts verb (operand_of one first) (operand_of two second)
 
 -- the same of a variable that is bound, and a word
-abbrev pub does_bound : Verb → Option (List ℕ) → Option Operand → Option Does
+abbrev pub does_bound : Verb → Option Binds → Option Operand → Option Does
 does_bound verb None first = None
 does_bound verb (Some var) None = None
-does_bound verb (Some var) (Some first) = Some (record { verb = verb; binds = binds.Var var; first = first; second = operand.Nothing })
+does_bound verb (Some var) (Some first) = Some (record { verb = verb; binds = var; first = first; second = operand.Nothing })
 
-abbrev pub does_binds : Verb → Form → Option (List ℕ × List ℕ) → Option Does
-does_binds verb form None = None
-does_binds verb form (Some (var, first)) = does_bound verb (variable_of var) (operand_of form first)
+abbrev pub does_binds : Verb → (List ℕ → Binds) → Form → Option (List ℕ × List ℕ) → Option Does
+does_binds verb binds form None = None
+does_binds verb binds form (Some (var, first)) = does_bound verb (option_map binds (variable_of var)) (operand_of form first)
 
 -- what a lane does by a command, if the words behind it are those that follow it
 abbrev pub does_of : Verb → Tail → List (List ℕ) → Option Does
 does_of verb tail.Alone words = if is_none words then Some (does_alone verb) else None
 does_of verb (tail.One form) words = does_one verb form (only_of words)
 does_of verb (tail.Two one two) words = does_two verb one two (pair_of words)
-does_of verb (tail.Binds form) words = does_binds verb form (pair_of words)
+does_of verb (tail.Binds form) words = does_binds verb binds.Var form (pair_of words)
+does_of verb (tail.BindsWeak form) words = does_binds verb binds.Weak form (pair_of words)
 
 -- other words are a fault
 abbrev pub or_words : Option Does → Result Does Cause

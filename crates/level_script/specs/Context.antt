@@ -17,6 +17,8 @@ use Rattle.level_script.specs.declared.cause.Stop.TheVariants as stop
 use Rattle.level_script.specs.declared.context.Context.{Context}
 use Rattle.level_script.specs.declared.lanes.LaneNames.{LaneNames}
 use Rattle.level_script.specs.declared.limits.Limits.{Limits}
+use Rattle.level_script.specs.declared.operand.Binds.{Binds}
+use Rattle.level_script.specs.declared.operand.Binds.TheVariants as binds
 use Rattle.level_script.specs.declared.said.Does.{Does}
 use Rattle.level_script.specs.declared.said.FieldOf.{FieldOf}
 use Rattle.level_script.specs.declared.said.FieldOf.TheVariants as of
@@ -27,6 +29,7 @@ use Rattle.level_script.specs.declared.script.Cmd.TheVariants as cmd
 use Rattle.level_script.specs.declared.script.Script.{Script}
 use Rattle.level_script.specs.declared.lane_cmd.LaneCmd.{LaneCmd}
 use Rattle.level_script.specs.declared.script.GcCmd.TheVariants as gc_cmd
+use Rattle.level_script.specs.declared.tables.Tables.{Tables}
 
 -- limits in their ranges
 pub record AreLawful (limits : Limits) : Type 0 where
@@ -41,25 +44,29 @@ pub record AreLawful (limits : Limits) : Type 0 where
 
 -- what is known before the first line
 abbrev pub start : Limits → Context
-start limits = record { classes = record { slots = limits.slots; classes = object ∷ [] }; in_header = true; lanes = replicate limits.lanes closed_lane; fields = []; lines = [] }
+start limits = record { tables = record { classes = record { slots = limits.slots; classes = object ∷ [] }; fields = []; weaks = []; strong = limits.strong }; in_header = true; lanes = replicate limits.lanes closed_lane; lines = [] }
 
 -- a line that does something, which ends the header
 abbrev pub with_line : Context → ℕ → Cmd → Context
-with_line c number command = record { classes = c.classes; in_header = false; lanes = c.lanes; fields = c.fields; lines = c.lines ++ record { number = number; cmd = command } ∷ [] }
+with_line c number command = record { tables = c.tables; in_header = false; lanes = c.lanes; lines = c.lines ++ record { number = number; cmd = command } ∷ [] }
+
+-- the same context with other tables
+abbrev pub with_tables : Context → Tables → Context
+with_tables c tables = record { tables = tables; in_header = c.in_header; lanes = c.lanes; lines = c.lines }
 
 -- the table of classes that a line leaves
 abbrev pub with_classes : Context → Result Schema SchemaErr → Result Context Cause
-with_classes c (Ok classes) = Ok (record { classes = classes; in_header = c.in_header; lanes = c.lanes; fields = c.fields; lines = c.lines })
+with_classes c (Ok classes) = Ok (with_tables c (record { classes = classes; fields = c.tables.fields; weaks = c.tables.weaks; strong = c.tables.strong }))
 with_classes c (Err refusal) = Err (cause.Schema refusal)
 
 -- the same of a line that tells a field, whose name is known then
 abbrev pub with_named : Context → List ℕ → Result Schema SchemaErr → Result Context Cause
-with_named c name (Ok classes) = Ok (record { classes = classes; in_header = c.in_header; lanes = c.lanes; fields = with_name c.fields name; lines = c.lines })
+with_named c name (Ok classes) = Ok (with_tables c (record { classes = classes; fields = with_name c.tables.fields name; weaks = c.tables.weaks; strong = c.tables.strong }))
 with_named c name (Err refusal) = Err (cause.Schema refusal)
 
 -- a line of the header that tells a class
 abbrev pub after_class : ℕ → Context → List ℕ → List ℕ → Result Context Cause
-after_class number c name parent = with_classes c (added c.classes number name parent)
+after_class number c name parent = with_classes c (added c.tables.classes number name parent)
 
 -- how many elements a field has: one where the line does not say it, and else 1 to 64
 abbrev pub elements_in : Option (Option ℕ) → Option ℕ
@@ -77,28 +84,38 @@ kind_found classes of.Int = Some kind.Int
 abbrev pub field_known : ℕ → Context → List ℕ → ℕ → Option ClassId → Option FieldKind → Result Context Cause
 field_known number c name count None what = Err cause.UnknownName
 field_known number c name count (Some class) None = Err cause.UnknownName
-field_known number c name count (Some class) (Some what) = with_named c name (field_added c.classes class (record { name = name; line = number; kind = what; count = count }))
+field_known number c name count (Some class) (Some what) = with_named c name (field_added c.tables.classes class (record { name = name; line = number; kind = what; count = count }))
 
 abbrev pub field_counted : ℕ → Context → List ℕ → List ℕ → FieldOf → Option ℕ → Result Context Cause
 field_counted number c class name what None = Err cause.Number
-field_counted number c class name what (Some count) = field_known number c name count (find_class c.classes.classes class) (kind_found c.classes.classes what)
+field_counted number c class name what (Some count) = field_known number c name count (find_class c.tables.classes.classes class) (kind_found c.tables.classes.classes what)
 
 -- a line of the header that tells a field
 abbrev pub after_field : ℕ → Context → List ℕ → List ℕ → FieldOf → Option (Option ℕ) → Result Context Cause
 after_field number c class name what count = field_counted number c class name what (elements_in count)
 
--- what a lane's line leaves, and the line
-abbrev pub with_lane : ℕ → Context → ℕ → Result (LaneNames × LaneCmd) Cause → Result Context Cause
-with_lane number c index (Ok (lane, command)) =
+-- the names of weak variables after a line that binds this
+abbrev pub more_weaks : Binds → List (List ℕ) → List (List ℕ)
+more_weaks binds.Nothing weaks = weaks
+more_weaks (binds.Var var) weaks = weaks
+more_weaks (binds.Weak weak) weaks = with_name weaks weak
+
+-- the tables after it
+abbrev pub with_weak : Binds → Tables → Tables
+with_weak what t = record { classes = t.classes; fields = t.fields; weaks = more_weaks what t.weaks; strong = t.strong }
+
+-- what a lane's line leaves that binds this, and the line
+abbrev pub with_lane : ℕ → Context → ℕ → Binds → Result (LaneNames × LaneCmd) Cause → Result Context Cause
+with_lane number c index what (Ok (lane, command)) =
     Ok
-    (with_line (record { classes = c.classes; in_header = c.in_header; lanes = slice_set c.lanes index lane; fields = c.fields; lines = c.lines })
+    (with_line (record { tables = with_weak what c.tables; in_header = c.in_header; lanes = slice_set c.lanes index lane; lines = c.lines })
     number (cmd.Lane index command))
-with_lane number c index (Err why) = Err why
+with_lane number c index what (Err why) = Err why
 
 -- the same of the lane at a place
 abbrev pub lane_at : ℕ → Context → ℕ → Option LaneNames → Does → Result Context Cause
 lane_at number c index None does = Err cause.Number
-lane_at number c index (Some lane) does = with_lane number c index (lane_step c.classes.classes c.fields lane does)
+lane_at number c index (Some lane) does = with_lane number c index does.binds (lane_step c.tables lane does)
 
 -- the same of a lane that may be there
 abbrev pub lane_of : ℕ → Context → Option ℕ → Does → Result Context Cause
@@ -134,4 +151,4 @@ Takes want new (Err stop.Memory) = Unit {0}
 
 -- the script that all lines are
 abbrev pub script_from : Context → Script
-script_from c = record { classes = c.classes; fields = c.fields; lines = c.lines; vars = map count_of c.lanes; weaks = 0 }
+script_from c = record { classes = c.tables.classes; fields = c.tables.fields; lines = c.lines; vars = map count_of c.lanes; weaks = length c.tables.weaks }

@@ -1,6 +1,6 @@
 -- What follows from the grammar, in words that know no context.
 use Rattle.std.specs.Prelude.{◌≡◌, ◌↔◌, ℕ, ◌+◌, ◌≤◌, ◌==◌, nat_le, Bool, true, false, not, ◌&&◌, List, [], ◌∷◌, ◌++◌, length, take, Option, Some, None, Result, Ok, slice_get, IsTrue}
-use Rattle.std.specs.List.{list_all, filter}
+use Rattle.std.specs.List.{list_all, list_any, filter}
 use Rattle.std.specs.Str.{bytes_eq, is_utf8}
 use Rattle.level_script.specs.Commands.{said_by_line}
 use Rattle.level_script.specs.Context.{start}
@@ -9,6 +9,7 @@ use Rattle.level_script.specs.Lanes.{bound_var}
 use Rattle.level_script.specs.LaneCommands.{frame_of}
 use Rattle.level_script.specs.Lines.{input_lines, line_words}
 use Rattle.level_script.specs.Operands.{closes, is_some}
+use Rattle.level_script.specs.Names.{number_of_name}
 use Rattle.level_script.specs.Reading.{after_numbered, read_on, read_from, script_of_lines, outcome_of, fault_of}
 use Rattle.level_script.specs.declared.cause.Cause.{Cause}
 use Rattle.level_script.specs.declared.cause.ScriptErr.{ScriptErr}
@@ -58,6 +59,7 @@ QuietLines = (bytes : List ℕ) (limits : Limits) → length bytes ≤ 16777216
 abbrev pub is_bound_by : List ℕ → Binds → Bool
 is_bound_by name binds.Nothing = false
 is_bound_by name (binds.Var var) = bytes_eq name var
+is_bound_by name (binds.Weak weak) = false
 
 abbrev pub binds_name : List ℕ → Does → Bool
 binds_name name what = is_bound_by name what.binds
@@ -87,3 +89,24 @@ pub record IsBoundBy (lane : ℕ) (name : List ℕ) (lines : List (List ℕ)) : 
 abbrev pub BoundByLines : Type 0
 BoundByLines = (limits : Limits) (lines : List (List ℕ)) (c : Context) → read_from 1 (start limits) lines ≡ Ok c
     → (index : ℕ) (lane : LaneNames) → slice_get c.lanes index ≡ Some lane → (name : List ℕ) → IsTrue (is_some (bound_var lane name)) ↔ IsBoundBy index name lines
+
+-- ---- where a weak variable is bound
+
+-- the lane does something that binds this name as that of a weak variable
+abbrev pub is_weak_by : List ℕ → Binds → Bool
+is_weak_by name binds.Nothing = false
+is_weak_by name (binds.Var var) = false
+is_weak_by name (binds.Weak weak) = bytes_eq name weak
+
+-- a line by which some lane does so
+abbrev pub says_weak : List ℕ → Result Said Cause → Bool
+says_weak name (Ok (said.Lane lane what)) = is_weak_by name what.binds
+says_weak name _ = false
+
+abbrev pub binds_weak : List ℕ → List ℕ → Bool
+binds_weak name line = says_weak name (said_by_line false line)
+
+-- After lines that are read a weak variable is bound exactly where one of them binds it, and it stays so.
+abbrev pub WeakByLines : Type 0
+WeakByLines = (limits : Limits) (lines : List (List ℕ)) (c : Context) → read_from 1 (start limits) lines ≡ Ok c
+    → (name : List ℕ) → is_some (number_of_name c.tables.weaks name) ≡ list_any (binds_weak name) lines

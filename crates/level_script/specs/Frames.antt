@@ -4,8 +4,8 @@ use Rattle.std.specs.List.{AllByRecursion, list_all}
 use Rattle.world_model.specs.declared.kind.Ready.TheVariants as ready
 use Rattle.class_schema.specs.Class.{Class}
 use Rattle.level_script.specs.Forms.{is_identifier, continues_identifier}
-use Rattle.level_script.specs.LaneCommands.{frame_by, named_by}
-use Rattle.level_script.specs.Operands.{allows, opened_by, fits_known}
+use Rattle.level_script.specs.LaneCommands.{frame_by, named_by, beside_by}
+use Rattle.level_script.specs.Operands.{allows, opened_by, fits_known, fits_beside}
 use Rattle.level_script.specs.declared.limits.Limits.{Limits}
 use Rattle.level_script.specs.declared.script.Cmd.{Cmd}
 use Rattle.level_script.specs.declared.script.Cmd.TheVariants as cmd
@@ -26,6 +26,11 @@ fit_all vars classes fields so (k ∷ ks) = fit_all vars classes fields (so && f
 -- a lane with so many variables may have this command: its frame is as the command needs it, and all that the command names is there
 abbrev pub fits_lane : ℕ → ℕ → ℕ → Bool → LaneCmd → Bool
 fits_lane vars classes fields opened command = fit_all vars classes fields (allows (frame_by command) opened) (named_by command)
+
+-- the weak variables and the strong pointers that a command names are there, where there are so many
+abbrev pub fits_script : ℕ → ℕ → Cmd → Bool
+fits_script weaks strong (cmd.Lane lane command) = list_all (fits_beside weaks strong) (beside_by command)
+fits_script weaks strong (cmd.Gc command) = true
 
 -- the command is one of a lane that there is, and fits it, while the lanes' frames are so; or it is the collector's
 abbrev pub fits : List ℕ → ℕ → ℕ → List Bool → Cmd → Bool
@@ -51,7 +56,7 @@ pub record IsNamed (class : Class) : Type 0 where
   pub identifier : is_identifier class.name ≡ true
   pub bytes : list_all continues_identifier class.name ≡ true
 
--- a script that can be played: it has the lanes and the slots of the limits and a class, the classes are ready at once and have identifiers as names, and each line fits where it stands, with all frames closed at first
+-- a script that can be played: it has the lanes and the slots of the limits and a class, the classes are ready at once and have identifiers as names, each line fits where it stands, with all frames closed at first, and the weak variables and strong pointers that it names are there
 pub record IsPlayable (limits : Limits) (script : Script) : Type 0 where
   pub lanes : length script.vars ≡ limits.lanes
   pub slots : script.classes.slots ≡ limits.slots
@@ -59,3 +64,4 @@ pub record IsPlayable (limits : Limits) (script : Script) : Type 0 where
   pub at_once : AllByRecursion IsAtOnce script.classes.classes
   pub named : AllByRecursion IsNamed script.classes.classes
   pub framed : are_framed script.vars (length script.classes.classes) (length script.fields) (replicate limits.lanes false) script.lines ≡ true
+  pub beside : list_all (λ line. fits_script script.weaks limits.strong line.cmd) script.lines ≡ true

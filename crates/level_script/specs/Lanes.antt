@@ -1,10 +1,8 @@
 -- What a line of a lane does to the lane's frame and variables.
 use Rattle.std.specs.Prelude.{◌≡◌, ℕ, nat_lt, Bool, true, false, ◌&&◌, List, [], length, Option, Some, None, option_map, Result, Ok, Err, MatchOption, slice_get, slice_set, if◌then◌else◌}
-use Rattle.world_model.specs.declared.kind.ClassId.{ClassId}
-use Rattle.class_schema.specs.Class.{Class}
 use Rattle.class_schema.specs.Table.{find_class}
 use Rattle.level_script.specs.LaneCommands.{frame_of, command_of}
-use Rattle.level_script.specs.Operands.{allows, element_in, is_in_range}
+use Rattle.level_script.specs.Operands.{allows, below, element_in, is_in_range}
 use Rattle.level_script.specs.Names.{number_of_name, number_in, with_name, has_number, with_number}
 use Rattle.level_script.specs.declared.cause.Cause.{Cause}
 use Rattle.level_script.specs.declared.cause.Cause.TheVariants as cause
@@ -24,6 +22,7 @@ use Rattle.level_script.specs.declared.operand.Operand.TheVariants as operand
 use Rattle.level_script.specs.declared.operand.Place.{Place}
 use Rattle.level_script.specs.declared.said.Does.{Does}
 use Rattle.level_script.specs.declared.script.Spot.{Spot}
+use Rattle.level_script.specs.declared.tables.Tables.{Tables}
 
 -- a lane whose frame was never open
 abbrev pub closed_lane : LaneNames
@@ -47,19 +46,22 @@ bound_var lane name = if_bound lane.bound (number_of_name lane.names name)
 -- the lane after a line that binds this
 abbrev pub with_bound : Binds → LaneNames → LaneNames
 with_bound binds.Nothing lane = lane
+with_bound (binds.Weak weak) lane = lane
 with_bound (binds.Var var) lane =
     record { opened = lane.opened; names = with_name lane.names var; bound = with_number lane.bound (number_in lane.names var) }
 
 -- the number of the variable that is bound
-abbrev pub known_bound : LaneNames → Binds → Known
-known_bound lane binds.Nothing = known.Nothing
-known_bound lane (binds.Var var) = known.Var (number_in lane.names var)
+abbrev pub known_bound : Tables → LaneNames → Binds → Known
+known_bound t lane binds.Nothing = known.Nothing
+known_bound t lane (binds.Var var) = known.Var (number_in lane.names var)
+known_bound t lane (binds.Weak weak) = known.Weak (number_in t.weaks weak)
 
 -- the lane after a line that does this to its frame; a close ends the variables
 abbrev pub with_frame : Frame → LaneNames → LaneNames
 with_frame frame.Opens lane = record { opened = true; names = lane.names; bound = lane.bound }
 with_frame frame.Closes lane = record { opened = false; names = lane.names; bound = [] }
 with_frame frame.Inside lane = lane
+with_frame frame.Anywhere lane = lane
 
 -- ---- what words stand for
 
@@ -73,20 +75,29 @@ spot_with (Some element) (Some var) (Some field) = Some (record { var = var; fie
 abbrev pub spot_found : LaneNames → List (List ℕ) → Place → Option Spot
 spot_found lane fields place = spot_with (element_in place.element) (bound_var lane place.var) (number_of_name fields place.field)
 
+-- the number of the weak variable whose value is stored, or none
+abbrev pub weak_target : List (List ℕ) → Option (List ℕ) → Option (Option ℕ)
+weak_target weaks None = Some None
+weak_target weaks (Some name) = option_map Some (number_of_name weaks name)
+
 -- the number of the variable whose object is stored, or none
 abbrev pub bound_target : LaneNames → Option (List ℕ) → Option (Option ℕ)
 bound_target lane None = Some None
 bound_target lane (Some name) = option_map Some (bound_var lane name)
 
 -- what a word stands for, if its names are known
-abbrev pub known_of : List Class → List (List ℕ) → LaneNames → Operand → Option Known
-known_of classes fields lane operand.Nothing = Some known.Nothing
-known_of classes fields lane (operand.Var name) = option_map known.Var (bound_var lane name)
-known_of classes fields lane (operand.Target to) = option_map known.Target (bound_target lane to)
-known_of classes fields lane (operand.Class name) = option_map known.Class (find_class classes name)
-known_of classes fields lane (operand.Spot place) = option_map known.Spot (spot_found lane fields place)
-known_of classes fields lane (operand.Switch on) = Some (known.Switch on)
-known_of classes fields lane (operand.Value number) = option_map known.Value number
+abbrev pub known_of : Tables → LaneNames → Operand → Option Known
+known_of t lane operand.Nothing = Some known.Nothing
+known_of t lane (operand.Var name) = option_map known.Var (bound_var lane name)
+known_of t lane (operand.Target to) = option_map known.Target (bound_target lane to)
+known_of t lane (operand.Class name) = option_map known.Class (find_class t.classes.classes name)
+known_of t lane (operand.Spot place) = option_map known.Spot (spot_found lane t.fields place)
+known_of t lane (operand.Switch on) = Some (known.Switch on)
+known_of t lane (operand.Value number) = option_map known.Value number
+known_of t lane (operand.Strong number) = option_map known.Strong (below t.strong number)
+known_of t lane (operand.Index number) = option_map known.Index (element_in number)
+known_of t lane (operand.Weak name) = option_map known.Weak (number_of_name t.weaks name)
+known_of t lane (operand.WeakTarget to) = option_map known.WeakTarget (weak_target t.weaks to)
 
 -- ---- all of it
 
@@ -96,9 +107,9 @@ command_known verb bound None second = None
 command_known verb bound (Some first) None = None
 command_known verb bound (Some first) (Some second) = command_of verb bound first second
 
-abbrev pub command_found : List Class → List (List ℕ) → LaneNames → Does → Option LaneCmd
-command_found classes fields lane does =
-    command_known does.verb (known_bound lane does.binds) (known_of classes fields lane does.first) (known_of classes fields lane does.second)
+abbrev pub command_found : Tables → LaneNames → Does → Option LaneCmd
+command_found t lane does =
+    command_known does.verb (known_bound t lane does.binds) (known_of t lane does.first) (known_of t lane does.second)
 
 -- the lane after the line
 abbrev pub left_by : Does → LaneNames → LaneNames
@@ -109,10 +120,10 @@ with_command left None = Err cause.UnknownName
 with_command left (Some command) = Ok (left, command)
 
 -- what a line of a lane does to it, and the command that it is: its numbers are in their ranges, then its frame is as it has to be, then its names are known
-abbrev pub lane_step : List Class → List (List ℕ) → LaneNames → Does → Result (LaneNames × LaneCmd) Cause
-lane_step classes fields lane does =
-    if is_in_range does.first && is_in_range does.second then
-    (if allows (frame_of does.verb) lane.opened then with_command (left_by does lane) (command_found classes fields lane does) else Err cause.Frame)
+abbrev pub lane_step : Tables → LaneNames → Does → Result (LaneNames × LaneCmd) Cause
+lane_step t lane does =
+    if is_in_range t.strong does.first && is_in_range t.strong does.second then
+    (if allows (frame_of does.verb) lane.opened then with_command (left_by does lane) (command_found t lane does) else Err cause.Frame)
     else Err cause.Number
 
 -- the lane that a number names
@@ -127,6 +138,6 @@ Steps want new (Err (stop.Faulty why)) = want ≡ Err why
 Steps want new (Err stop.Memory) = Unit {0}
 
 -- the lane at this place has done what it says, and no other has done anything
-abbrev pub StepsAt : List Class → List (List ℕ) → List LaneNames → ℕ → Does → List LaneNames → Result LaneCmd Stop → Type 0
-StepsAt classes fields old index what new result =
-    MatchOption (slice_get old index) ⊥ (λ lane. (left : LaneNames) × (new ≡ slice_set old index left) × Steps (lane_step classes fields lane what) left result)
+abbrev pub StepsAt : Tables → List LaneNames → ℕ → Does → List LaneNames → Result LaneCmd Stop → Type 0
+StepsAt t old index what new result =
+    MatchOption (slice_get old index) ⊥ (λ lane. (left : LaneNames) × (new ≡ slice_set old index left) × Steps (lane_step t lane what) left result)

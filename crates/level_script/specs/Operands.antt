@@ -20,12 +20,14 @@ abbrev pub allows : Frame → Bool → Bool
 allows frame.Opens opened = not opened
 allows frame.Closes opened = opened
 allows frame.Inside opened = opened
+allows frame.Anywhere opened = true
 
 -- whether the frame is open after it
 abbrev pub opened_by : Frame → Bool → Bool
 opened_by frame.Opens was = true
 opened_by frame.Closes was = false
 opened_by frame.Inside was = was
+opened_by frame.Anywhere was = was
 
 abbrev pub closes : Frame → Bool
 closes frame.Closes = true
@@ -40,9 +42,13 @@ switch_of word =
     else if bytes_eq word (codes "off") then Some false
     else None
 
--- the variable whose object is stored, or `none`
+-- the variable whose value is stored, or `none`
 abbrev pub target_of : List ℕ → Option (Option (List ℕ))
 target_of word = if bytes_eq word (codes "none") then Some None else option_map Some (identifier_of word)
+
+-- the number that a word of digits says
+abbrev pub digits_of : List ℕ → Option (Option ℕ)
+digits_of word = if is_digits word then Some (number_of word) else None
 
 -- what a word of this form says, if it has the form
 abbrev pub operand_of : Form → List ℕ → Option Operand
@@ -51,24 +57,34 @@ operand_of form.Target word = option_map operand.Target (target_of word)
 operand_of form.Class word = option_map operand.Class (identifier_of word)
 operand_of form.Spot word = option_map operand.Spot (spot_of word)
 operand_of form.Switch word = option_map operand.Switch (switch_of word)
-operand_of form.Value word = if is_digits word then Some (operand.Value (number_of word)) else None
+operand_of form.Value word = option_map operand.Value (digits_of word)
+operand_of form.Strong word = option_map operand.Strong (digits_of word)
+operand_of form.Index word = option_map operand.Index (digits_of word)
+operand_of form.Weak word = option_map operand.Weak (variable_of word)
+operand_of form.WeakTarget word = option_map operand.WeakTarget (target_of word)
 
 -- ---- numbers
 
--- the number of an element, below 2^32
+-- a number below this one
+abbrev pub below : ℕ → Option ℕ → Option ℕ
+below most (Some number) = if nat_lt number most then Some number else None
+below most None = None
+
+-- the number of an element, or of an index, below 2^32
 abbrev pub element_in : Option ℕ → Option ℕ
-element_in (Some number) = if nat_lt number 4294967296 then Some number else None
-element_in None = None
+element_in number = below 4294967296 number
 
 abbrev pub is_some : {A : Type 0} → Option A → Bool
 is_some None = false
 is_some (Some a) = true
 
--- the number that a word says is in its range
-abbrev pub is_in_range : Operand → Bool
-is_in_range (operand.Spot place) = is_some (element_in place.element)
-is_in_range (operand.Value number) = is_some number
-is_in_range _ = true
+-- the number that a word says is in its range, where a lane has so many strong pointers
+abbrev pub is_in_range : ℕ → Operand → Bool
+is_in_range strong (operand.Spot place) = is_some (element_in place.element)
+is_in_range strong (operand.Value number) = is_some number
+is_in_range strong (operand.Strong number) = is_some (below strong number)
+is_in_range strong (operand.Index number) = is_some (element_in number)
+is_in_range strong _ = true
 
 -- ---- what a word stands for
 
@@ -96,6 +112,22 @@ abbrev pub value_known : Known → Option ℕ
 value_known (known.Value value) = Some value
 value_known _ = None
 
+abbrev pub strong_known : Known → Option ℕ
+strong_known (known.Strong h) = Some h
+strong_known _ = None
+
+abbrev pub index_known : Known → Option ℕ
+index_known (known.Index index) = Some index
+index_known _ = None
+
+abbrev pub weak_known : Known → Option ℕ
+weak_known (known.Weak weak) = Some weak
+weak_known _ = None
+
+abbrev pub weak_target_known : Known → Option (Option ℕ)
+weak_target_known (known.WeakTarget to) = Some to
+weak_target_known _ = None
+
 -- an element of one of so many variables, in a field with one of so many names
 abbrev pub fits_spot : ℕ → ℕ → Spot → Bool
 fits_spot vars fields spot = nat_lt spot.var vars && nat_lt spot.field fields
@@ -112,3 +144,10 @@ fits_known vars classes fields (known.Target to) = fits_target vars to
 fits_known vars classes fields (known.Class class) = nat_lt class.0 classes
 fits_known vars classes fields (known.Spot spot) = fits_spot vars fields spot
 fits_known vars classes fields _ = true
+
+-- the same of weak variables, which the whole script has, and of the strong pointers of a lane
+abbrev pub fits_beside : ℕ → ℕ → Known → Bool
+fits_beside weaks strong (known.Weak weak) = nat_lt weak weaks
+fits_beside weaks strong (known.WeakTarget to) = fits_target weaks to
+fits_beside weaks strong (known.Strong h) = nat_lt h strong
+fits_beside weaks strong _ = true

@@ -3,6 +3,7 @@ ghost use Rattle.std.specs.Prelude.{◌≡◌, MatchOption, Some, None};
 ghost use Rattle.level_script.specs.Lines.{line_words};
 ghost use Rattle.level_script.specs.Commands.{pair_of, only_of, class_line, count_of, field_of, two_names, field_line, collector_line, does_one, does_two, does_binds, does_of};
 ghost use Rattle.level_script.specs.LaneCommands.{tail_of};
+ghost use Rattle.level_script.specs.declared.operand.Binds.TheVariants as binds;
 
 use crate::cause::Cause;
 use crate::forms::{Identifier, Number, is_digits, read_identifier, read_number, read_variable};
@@ -163,7 +164,7 @@ fn two<'a>(verb: Verb, one: Form, two: Form, rest: &'a [u8]) -> Option<Does<'a>>
 
 /// A command with a variable that it binds and another word behind it.
 fn binding<'a>(verb: Verb, form: Form, rest: &'a [u8]) -> Option<Does<'a>>
-    ensures { result ≡ does_binds verb form (pair_of (line_words rest.now)) }
+    ensures { result ≡ does_binds verb binds.Var form (pair_of (line_words rest.now)) }
 {
     let (var, first) = pair(rest)?;
     let var = read_variable(var)?;
@@ -171,6 +172,21 @@ fn binding<'a>(verb: Verb, form: Form, rest: &'a [u8]) -> Option<Does<'a>>
     Some(Does {
         verb,
         binds: Binds::Var(var),
+        first,
+        second: Operand::Nothing,
+    })
+}
+
+/// The same with a weak variable.
+fn binding_weak<'a>(verb: Verb, form: Form, rest: &'a [u8]) -> Option<Does<'a>>
+    ensures { result ≡ does_binds verb binds.Weak form (pair_of (line_words rest.now)) }
+{
+    let (weak, first) = pair(rest)?;
+    let weak = read_variable(weak)?;
+    let first = read_operand(form, first)?;
+    Some(Does {
+        verb,
+        binds: Binds::Weak(weak),
         first,
         second: Operand::Nothing,
     })
@@ -196,5 +212,6 @@ pub fn read_does<'a>(verb: Verb, rest: &'a [u8]) -> Option<Does<'a>>
         Tail::One(form) => one(verb, form, rest),
         Tail::Two(first, second) => two(verb, first, second, rest),
         Tail::Binds(form) => binding(verb, form, rest),
+        Tail::BindsWeak(form) => binding_weak(verb, form, rest),
     }
 }

@@ -1,15 +1,17 @@
 //! What the lines so far have made known, and what one more line adds.
 ghost use Rattle.std.specs.Prelude.{◌≡◌, ◌≤◌, length, IsTrue, IfOk, IfSome, Ok};
 ghost use Rattle.class_schema.specs.Lawful.{has_target};
-ghost use Rattle.level_script.specs.Context.{AreLawful, start, with_line, after_class, elements_in, kind_found, with_named, after_field, after_lane_line, after_said, Takes, script_from};
+ghost use Rattle.level_script.specs.Context.{AreLawful, start, with_line, after_class, elements_in, kind_found, with_named, with_tables, with_weak, after_field, after_lane_line, after_said, Takes, script_from};
 
 use crate::cause::{Cause, Stop};
 use crate::forms::{Identifier, Number};
 use crate::lanes::Lanes;
 use crate::limits::Limits;
 use crate::names::NameTable;
+use crate::operand::Binds;
 use crate::said::{Does, FieldOf, Said};
 use crate::script::{Cmd, FieldNames, GcCmd, Line, Lines, Script};
+use crate::tables::Tables;
 use class_schema::{AddErr, ClassTable, FieldKind};
 use std::alloc::{AllocError, Global};
 
@@ -31,12 +33,10 @@ fn elements_in(count: &Option<Number>) -> Option<u32>
 /// What the lines so far have made known.
 #[derive(Drop)]
 pub struct Context {
-    classes: ClassTable,
+    tables: Tables,
     /// Whether no line of another command than those of the header has come.
     in_header: bool,
     lanes: Lanes,
-    /// The names of the fields, in the order in which lines of the header tell them first.
-    fields: NameTable,
     /// The lines that do something.
     lines: Lines,
 }
@@ -49,11 +49,16 @@ impl Context {
     {
         let classes = ClassTable::new(alloc, limits.slots)?;
         let lanes = Lanes::new(alloc, limits.lanes)?;
-        Ok(Context {
+        let tables = Tables {
             classes,
+            fields: NameTable::new(alloc),
+            weaks: NameTable::new(alloc),
+            strong: limits.strong,
+        };
+        Ok(Context {
+            tables,
             in_header: true,
             lanes,
-            fields: NameTable::new(alloc),
             lines: Lines::new(alloc),
         })
     }
@@ -79,6 +84,7 @@ impl Context {
         ensures { Takes (after_class number self.old name.now parent.now) self.new result }
     {
         match self
+            .tables
             .classes
             .add_class(number, name.as_str(), parent.as_str())
         {
@@ -90,11 +96,11 @@ impl Context {
 
     /// What the elements of a field are.
     fn kind_found(&self, of: &FieldOf<'_>) -> Option<FieldKind>
-        ensures kind { result ≡ kind_found self.now.classes.classes of.now }
-        ensures known { IfSome result (λ kind. IsTrue (has_target (length self.now.classes.classes) kind)) }
+        ensures kind { result ≡ kind_found self.now.tables.classes.classes of.now }
+        ensures known { IfSome result (λ kind. IsTrue (has_target (length self.now.tables.classes.classes) kind)) }
     {
         match of {
-            FieldOf::Ref(name) => match self.classes.find_class(name.as_str()) {
+            FieldOf::Ref(name) => match self.tables.classes.find_class(name.as_str()) {
                 Some(class) => Some(FieldKind::Ref(class)),
                 None => None,
             },
@@ -105,9 +111,9 @@ impl Context {
 
     /// The name of a field of the table is known.
     fn name_field(&mut self, name: &Identifier<'_>) -> Result<(), Stop>
-        ensures { Takes (with_named self.old name.now (Ok self.old.classes)) self.new result }
+        ensures { Takes (with_named self.old name.now (Ok self.old.tables.classes)) self.new result }
     {
-        match self.fields.add(name.as_str()) {
+        match self.tables.fields.add(name.as_str()) {
             Ok(_) => Ok(()),
             Err(_) => Err(Stop::Memory),
         }
@@ -127,19 +133,33 @@ impl Context {
         let Some(count) = elements_in(count) else {
             return Err(Stop::Faulty(Cause::Number));
         };
-        let Some(class) = self.classes.find_class(class.as_str()) else {
+        let Some(class) = self.tables.classes.find_class(class.as_str()) else {
             return Err(Stop::Faulty(Cause::UnknownName));
         };
         let Some(kind) = self.kind_found(of) else {
             return Err(Stop::Faulty(Cause::UnknownName));
         };
         match self
+            .tables
             .classes
             .add_field(number, class, name.as_str(), kind, count)
         {
             Ok(()) => self.name_field(name),
             Err(AddErr::Schema(refusal)) => Err(Stop::Faulty(Cause::Schema(refusal))),
             Err(AddErr::Memory) => Err(Stop::Memory),
+        }
+    }
+
+    /// Binds a weak variable.
+    fn bind_weak(&mut self, binds: &Binds<'_>) -> Result<(), Stop>
+        ensures { Takes (Ok (with_tables self.old (with_weak binds.now self.old.tables))) self.new result }
+    {
+        let Binds::Weak(name) = binds else {
+            return Ok(());
+        };
+        match self.tables.weaks.add(name.as_str()) {
+            Ok(_) => Ok(()),
+            Err(_) => Err(Stop::Memory),
         }
     }
 
@@ -150,7 +170,8 @@ impl Context {
         let Some(lane) = self.lanes.find(lane) else {
             return Err(Stop::Faulty(Cause::Number));
         };
-        let cmd = self.lanes.step(lane, &self.classes, &self.fields, does)?;
+        let cmd = self.lanes.step(lane, &self.tables, does)?;
+        self.bind_weak(&does.binds)?;
         self.push(number, Cmd::Lane(lane, cmd))
     }
 
@@ -184,12 +205,14 @@ impl Context {
         ensures { IfOk result (λ script. script ≡ script_from self) }
     {
         let vars = self.lanes.counts(alloc)?;
+        let tables = self.tables;
+        let weaks = tables.weaks.count();
         Ok(Script {
-            classes: self.classes,
-            fields: FieldNames::from_table(self.fields),
+            classes: tables.classes,
+            fields: FieldNames::from_table(tables.fields),
             lines: self.lines,
             vars,
-            weaks: 0,
+            weaks,
         })
     }
 }

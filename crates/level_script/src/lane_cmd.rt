@@ -2,14 +2,15 @@
 //! words follow, what it wants of the lane's frame, and which command of a script it is. The other files go by forms and
 //! frames, and know no command.
 ghost use Rattle.std.specs.Prelude.{◌≡◌};
-ghost use Rattle.level_script.specs.LaneCommands.{verb_of, tail_of, frame_of, command_of};
+ghost use Rattle.level_script.specs.LaneCommands.{verb_of, pointer_verb_of, tail_of, frame_of, command_of, pointer_command_of};
 
 use crate::operand::{Form, Frame, Known, Tail};
 use crate::script::Spot;
 use world_model::ClassId;
 
 /// What a lane does. Variables are numbers of the lane's object variables, from 0 in the order in
-/// which the lane's lines mention them first.
+/// which the lane's lines mention them first. Weak variables are those of the whole script, numbered
+/// from 0 in the order in which lines bind them first.
 #[derive(Clone, Copy, Debug, PartialEq, Eq)]
 pub enum LaneCmd {
     /// The lane opens its frame.
@@ -30,6 +31,22 @@ pub enum LaneCmd {
     Take { spot: Spot },
     /// The object of the variable is told, with its class.
     Print { var: u32 },
+    /// The pair of a weak variable, or the empty one, is stored in an element.
+    Store { spot: Spot, weak: Option<u32> },
+    /// The weak variable stands for the pair in an element.
+    Load { weak: u32, spot: Spot },
+    /// The strong pointer with this number gets the object of a variable, or none.
+    Hold { h: u32, to: Option<u32> },
+    /// The variable stands for what the strong pointer names.
+    Held { var: u32, h: u32 },
+    /// The weak variable stands for the pair of the variable's object.
+    Weak { weak: u32, var: u32 },
+    /// The variable stands for the object that the weak variable gives.
+    Resolve { var: u32, weak: u32 },
+    /// The weak variable stands for a pair of this index, which no object ever has.
+    Forge { weak: u32, index: u32 },
+    /// Two pairs are compared.
+    Same { left: u32, right: u32 },
 }
 
 /// Which command a line of a lane has.
@@ -44,6 +61,14 @@ pub enum Verb {
     Put,
     Take,
     Print,
+    Store,
+    Load,
+    Hold,
+    Held,
+    Weak,
+    Resolve,
+    Forge,
+    Same,
 }
 
 /// The command with this word.
@@ -69,6 +94,31 @@ pub fn verb_of(word: &[u8]) -> Option<Verb>
     } else if word == b"print".as_slice() {
         Some(Verb::Print)
     } else {
+        pointer_verb_of(word)
+    }
+}
+
+/// The same of the commands of strong and weak pointers.
+fn pointer_verb_of(word: &[u8]) -> Option<Verb>
+    ensures { result ≡ pointer_verb_of word.now }
+{
+    if word == b"store".as_slice() {
+        Some(Verb::Store)
+    } else if word == b"load".as_slice() {
+        Some(Verb::Load)
+    } else if word == b"hold".as_slice() {
+        Some(Verb::Hold)
+    } else if word == b"held".as_slice() {
+        Some(Verb::Held)
+    } else if word == b"weak".as_slice() {
+        Some(Verb::Weak)
+    } else if word == b"resolve".as_slice() {
+        Some(Verb::Resolve)
+    } else if word == b"forge".as_slice() {
+        Some(Verb::Forge)
+    } else if word == b"same".as_slice() {
+        Some(Verb::Same)
+    } else {
         None
     }
 }
@@ -87,6 +137,14 @@ pub fn tail_of(verb: Verb) -> Tail
         Verb::Put => Tail::Two(Form::Spot, Form::Value),
         Verb::Take => Tail::One(Form::Spot),
         Verb::Print => Tail::One(Form::Var),
+        Verb::Store => Tail::Two(Form::Spot, Form::WeakTarget),
+        Verb::Load => Tail::BindsWeak(Form::Spot),
+        Verb::Hold => Tail::Two(Form::Strong, Form::Target),
+        Verb::Held => Tail::Binds(Form::Strong),
+        Verb::Weak => Tail::BindsWeak(Form::Var),
+        Verb::Resolve => Tail::Binds(Form::Weak),
+        Verb::Forge => Tail::BindsWeak(Form::Index),
+        Verb::Same => Tail::Two(Form::Weak, Form::Weak),
     }
 }
 
@@ -97,6 +155,8 @@ pub fn frame_of(verb: Verb) -> Frame
     match verb {
         Verb::Open => Frame::Opens,
         Verb::Close => Frame::Closes,
+        Verb::Forge => Frame::Anywhere,
+        Verb::Same => Frame::Anywhere,
         _ => Frame::Inside,
     }
 }
@@ -142,5 +202,55 @@ pub fn command_of(verb: Verb, binds: Known, first: Known, second: Known) -> Opti
             let var = first.var()?;
             Some(LaneCmd::Print { var })
         }
+        _ => pointer_command_of(verb, binds, first, second),
+    }
+}
+
+/// The same of the commands of strong and weak pointers.
+fn pointer_command_of(verb: Verb, binds: Known, first: Known, second: Known) -> Option<LaneCmd>
+    ensures { result ≡ pointer_command_of verb binds first second }
+{
+    match verb {
+        Verb::Store => {
+            let spot = first.spot()?;
+            let weak = second.weak_target()?;
+            Some(LaneCmd::Store { spot, weak })
+        }
+        Verb::Load => {
+            let weak = binds.weak()?;
+            let spot = first.spot()?;
+            Some(LaneCmd::Load { weak, spot })
+        }
+        Verb::Hold => {
+            let h = first.strong()?;
+            let to = second.target()?;
+            Some(LaneCmd::Hold { h, to })
+        }
+        Verb::Held => {
+            let var = binds.var()?;
+            let h = first.strong()?;
+            Some(LaneCmd::Held { var, h })
+        }
+        Verb::Weak => {
+            let weak = binds.weak()?;
+            let var = first.var()?;
+            Some(LaneCmd::Weak { weak, var })
+        }
+        Verb::Resolve => {
+            let var = binds.var()?;
+            let weak = first.weak()?;
+            Some(LaneCmd::Resolve { var, weak })
+        }
+        Verb::Forge => {
+            let weak = binds.weak()?;
+            let index = first.index()?;
+            Some(LaneCmd::Forge { weak, index })
+        }
+        Verb::Same => {
+            let left = first.weak()?;
+            let right = second.weak()?;
+            Some(LaneCmd::Same { left, right })
+        }
+        _ => None,
     }
 }

@@ -1,17 +1,27 @@
 //! The lanes of a script, as far as it has been read.
 ghost use Rattle.std.specs.Prelude.{◌≡◌, ◌<◌, ◌≤◌, length, map, replicate, IfOk, OnOk, Some, slice_get};
-ghost use Rattle.level_script.specs.Lanes.{closed_lane, bound_var, spot_found, bound_target, known_of, known_bound, command_found, with_frame, with_bound, lane_step, lane_index, Steps, StepsAt, count_of};
+ghost use Rattle.level_script.specs.Lanes.{closed_lane, bound_var, spot_found, bound_target, weak_target, known_of, known_bound, command_found, with_frame, with_bound, lane_step, lane_index, Steps, StepsAt, count_of};
 
 use crate::cause::{Cause, Stop};
 use crate::forms::{Identifier, Number};
 use crate::lane_cmd::{LaneCmd, command_of, frame_of};
 use crate::names::{NameTable, NumberSet};
-use crate::operand::{Binds, Frame, Known, Operand, Place, element_in};
+use crate::operand::{Binds, Frame, Known, Operand, Place, below, element_in};
 use crate::said::Does;
 use crate::script::{Counts, Spot};
-use class_schema::ClassTable;
+use crate::tables::Tables;
 use std::alloc::{AllocError, Global};
 use std::marker::Model;
+
+/// The number of the weak variable whose value is stored, or none.
+fn weak_target(weaks: &NameTable, to: &Option<Identifier<'_>>) -> Option<Option<u32>>
+    ensures { result ≡ weak_target weaks.now to.now }
+{
+    let Some(name) = to else {
+        return Some(None);
+    };
+    Some(Some(weaks.find(name.as_str())?))
+}
 
 /// A lane.
 #[derive(Drop)]
@@ -73,37 +83,47 @@ impl LaneNames {
     }
 
     /// What a word stands for, if its names are known.
-    fn known(&self, classes: &ClassTable, fields: &NameTable, word: &Operand<'_>) -> Option<Known>
-        ensures { result ≡ known_of classes.now.classes fields.now self.now word.now }
+    fn known(&self, tables: &Tables, word: &Operand<'_>) -> Option<Known>
+        ensures { result ≡ known_of tables.now self.now word.now }
     {
         match word {
             Operand::Nothing => Some(Known::Nothing),
             Operand::Var(name) => Some(Known::Var(self.bound_var(name.as_str())?)),
             Operand::Target(to) => Some(Known::Target(self.target(to)?)),
-            Operand::Class(name) => Some(Known::Class(classes.find_class(name.as_str())?)),
-            Operand::Spot(place) => Some(Known::Spot(self.spot(fields, place)?)),
+            Operand::Class(name) => Some(Known::Class(tables.classes.find_class(name.as_str())?)),
+            Operand::Spot(place) => Some(Known::Spot(self.spot(&tables.fields, place)?)),
             Operand::Switch(on) => Some(Known::Switch(*on)),
             Operand::Value(number) => Some(Known::Value(number.get()?)),
+            Operand::Strong(number) => Some(Known::Strong(below(number, tables.strong)?)),
+            Operand::Index(number) => Some(Known::Index(element_in(number)?)),
+            Operand::Weak(name) => Some(Known::Weak(tables.weaks.find(name.as_str())?)),
+            Operand::WeakTarget(to) => Some(Known::WeakTarget(weak_target(&tables.weaks, to)?)),
         }
     }
 
     /// The number of the variable that is bound.
-    fn known_bound(&self, binds: &Binds<'_>) -> Known
-        ensures { result ≡ known_bound self.now binds.now }
+    fn known_bound(&self, tables: &Tables, binds: &Binds<'_>) -> Known
+        ensures { result ≡ known_bound tables.now self.now binds.now }
     {
         match binds {
             Binds::Nothing => Known::Nothing,
             Binds::Var(name) => Known::Var(self.names.number_for(name.as_str())),
+            Binds::Weak(name) => Known::Weak(tables.weaks.number_for(name.as_str())),
         }
     }
 
     /// The command that a line of the lane is, if all names are known.
-    fn command(&self, classes: &ClassTable, fields: &NameTable, does: &Does<'_>) -> Option<LaneCmd>
-        ensures { result ≡ command_found classes.now.classes fields.now self.now does.now }
+    fn command(&self, tables: &Tables, does: &Does<'_>) -> Option<LaneCmd>
+        ensures { result ≡ command_found tables.now self.now does.now }
     {
-        let first = self.known(classes, fields, &does.first)?;
-        let second = self.known(classes, fields, &does.second)?;
-        command_of(does.verb, self.known_bound(&does.binds), first, second)
+        let first = self.known(tables, &does.first)?;
+        let second = self.known(tables, &does.second)?;
+        command_of(
+            does.verb,
+            self.known_bound(tables, &does.binds),
+            first,
+            second,
+        )
     }
 
     /// Opens or closes the frame; a close ends the variables.
@@ -117,6 +137,7 @@ impl LaneNames {
                 self.bound.clear();
             }
             Frame::Inside => {}
+            Frame::Anywhere => {}
         }
     }
 
@@ -133,22 +154,17 @@ impl LaneNames {
     }
 
     /// Does what a line of the lane says.
-    fn step(
-        &mut self,
-        classes: &ClassTable,
-        fields: &NameTable,
-        does: &Does<'_>,
-    ) -> Result<LaneCmd, Stop>
-        ensures { Steps (lane_step classes.now.classes fields.now self.old does.now) self.new result }
+    fn step(&mut self, tables: &Tables, does: &Does<'_>) -> Result<LaneCmd, Stop>
+        ensures { Steps (lane_step tables.now self.old does.now) self.new result }
     {
-        if !(does.first.is_in_range() && does.second.is_in_range()) {
+        if !(does.first.is_in_range(tables.strong) && does.second.is_in_range(tables.strong)) {
             return Err(Stop::Faulty(Cause::Number));
         }
         let frame = frame_of(does.verb);
         if !frame.allows(self.opened) {
             return Err(Stop::Faulty(Cause::Frame));
         }
-        let Some(cmd) = self.command(classes, fields, does) else {
+        let Some(cmd) = self.command(tables, does) else {
             return Err(Stop::Faulty(Cause::UnknownName));
         };
         self.enter(frame);
@@ -207,18 +223,12 @@ impl Lanes {
     }
 
     /// Does what a line of a lane says.
-    pub fn step(
-        &mut self,
-        lane: u32,
-        classes: &ClassTable,
-        fields: &NameTable,
-        does: &Does<'_>,
-    ) -> Result<LaneCmd, Stop>
+    pub fn step(&mut self, lane: u32, tables: &Tables, does: &Does<'_>) -> Result<LaneCmd, Stop>
         requires { lane < length self.old }
-        ensures { StepsAt classes.now.classes fields.now self.old lane does.now self.new result }
+        ensures { StepsAt tables.now self.old lane does.now self.new result }
     {
         let lane = &mut self.items[lane as usize];
-        lane.step(classes, fields, does)
+        lane.step(tables, does)
     }
 
     /// How many object variables each lane has.

@@ -1,5 +1,5 @@
 //! Laws of the definitions.
-ghost use Rattle.level_script.specs.Following.{FaultByLines, QuietLines, BoundByLines};
+ghost use Rattle.level_script.specs.Following.{FaultByLines, QuietLines, BoundByLines, WeakByLines};
 ghost use Rattle.level_script.specs.Reading.{FirstFault, OneOutcome};
 
 /// Each input is a script, or has a first fault, and not both.
@@ -28,4 +28,9 @@ pub fn quiet_lines()
 /// lane's frame.
 pub fn bound_by_lines()
     ensures { BoundByLines }
+{}
+
+/// A weak variable is bound exactly where a line of any lane binds it, and stays so.
+pub fn weak_by_lines()
+    ensures { WeakByLines }
 {}

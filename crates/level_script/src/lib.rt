@@ -29,6 +29,7 @@ mod reader;
 mod said;
 mod script;
 mod spot;
+mod tables;
 
 pub use cause::{Cause, ParseErr, ScriptErr};
 pub use class_schema::{AddErr, ClassTable, Field, FieldKind, SchemaErr};

@@ -1,6 +1,6 @@
 //! The words behind the word of a lane's command: their forms, what they say, and what that stands for.
 ghost use Rattle.std.specs.Prelude.{◌≡◌};
-ghost use Rattle.level_script.specs.Operands.{allows, switch_of, target_of, operand_of, element_in, is_in_range, var_known, target_known, class_known, spot_known, switch_known, value_known};
+ghost use Rattle.level_script.specs.Operands.{allows, switch_of, target_of, digits_of, operand_of, below, element_in, is_in_range, var_known, target_known, class_known, spot_known, switch_known, value_known, strong_known, index_known, weak_known, weak_target_known};
 
 use crate::forms::{Identifier, Number, is_digits, read_identifier, read_number, read_variable};
 use crate::script::Spot;
@@ -16,6 +16,8 @@ pub enum Frame {
     Closes,
     /// The frame is open, and stays so.
     Inside,
+    /// The frame may be open or not, and stays so.
+    Anywhere,
 }
 
 impl Frame {
@@ -27,6 +29,7 @@ impl Frame {
             Frame::Opens => !opened,
             Frame::Closes => opened,
             Frame::Inside => opened,
+            Frame::Anywhere => true,
         }
     }
 }
@@ -46,6 +49,14 @@ pub enum Form {
     Switch,
     /// A number below 2^64.
     Value,
+    /// The number of a strong pointer.
+    Strong,
+    /// A number below 2^32.
+    Index,
+    /// A weak variable that is bound.
+    Weak,
+    /// A weak variable that is bound, or `none`.
+    WeakTarget,
 }
 
 /// The words behind the word of a command.
@@ -57,6 +68,8 @@ pub enum Tail {
     Two(Form, Form),
     /// A variable that the line binds, and another word.
     Binds(Form),
+    /// A weak variable that the line binds, and another word.
+    BindsWeak(Form),
 }
 
 /// The variable that a line binds.
@@ -64,6 +77,7 @@ pub enum Tail {
 pub enum Binds<'a> {
     Nothing,
     Var(Identifier<'a>),
+    Weak(Identifier<'a>),
 }
 
 /// An element of a field of an object.
@@ -85,6 +99,10 @@ pub enum Operand<'a> {
     Spot(Place<'a>),
     Switch(bool),
     Value(Number),
+    Strong(Number),
+    Index(Number),
+    Weak(Identifier<'a>),
+    WeakTarget(Option<Identifier<'a>>),
 }
 
 /// What a word stands for.
@@ -97,6 +115,10 @@ pub enum Known {
     Spot(Spot),
     Switch(bool),
     Value(u64),
+    Strong(u32),
+    Index(u32),
+    Weak(u32),
+    WeakTarget(Option<u32>),
 }
 
 impl Known {
@@ -159,6 +181,46 @@ impl Known {
             _ => None,
         }
     }
+
+    /// The number of the strong pointer, if it is one.
+    pub fn strong(self) -> Option<u32>
+        ensures { result ≡ strong_known self }
+    {
+        match self {
+            Known::Strong(h) => Some(h),
+            _ => None,
+        }
+    }
+
+    /// The index, if it is one.
+    pub fn index(self) -> Option<u32>
+        ensures { result ≡ index_known self }
+    {
+        match self {
+            Known::Index(index) => Some(index),
+            _ => None,
+        }
+    }
+
+    /// The number of the weak variable, if it is one.
+    pub fn weak(self) -> Option<u32>
+        ensures { result ≡ weak_known self }
+    {
+        match self {
+            Known::Weak(weak) => Some(weak),
+            _ => None,
+        }
+    }
+
+    /// The number of the weak variable or none, if it is one of these.
+    pub fn weak_target(self) -> Option<Option<u32>>
+        ensures { result ≡ weak_target_known self }
+    {
+        match self {
+            Known::WeakTarget(to) => Some(to),
+            _ => None,
+        }
+    }
 }
 
 /// True for `on`, false for `off`.
@@ -174,7 +236,7 @@ fn read_switch(word: &[u8]) -> Option<bool>
     }
 }
 
-/// The variable whose object is stored, or none.
+/// The variable whose value is stored, or none.
 fn read_target<'a>(word: &'a [u8]) -> Option<Option<Identifier<'a>>>
     ensures { result ≡ target_of word.now }
 {
@@ -182,6 +244,17 @@ fn read_target<'a>(word: &'a [u8]) -> Option<Option<Identifier<'a>>>
         Some(None)
     } else {
         Some(Some(read_identifier(word)?))
+    }
+}
+
+/// The number that a word of digits says.
+fn read_digits(word: &[u8]) -> Option<Number>
+    ensures { result ≡ digits_of word.now }
+{
+    if is_digits(word) {
+        Some(read_number(word))
+    } else {
+        None
     }
 }
 
@@ -195,17 +268,25 @@ pub fn read_operand<'a>(form: Form, word: &'a [u8]) -> Option<Operand<'a>>
         Form::Class => Some(Operand::Class(read_identifier(word)?)),
         Form::Spot => Some(Operand::Spot(read_spot(word)?)),
         Form::Switch => Some(Operand::Switch(read_switch(word)?)),
-        Form::Value => {
-            if is_digits(word) {
-                Some(Operand::Value(read_number(word)))
-            } else {
-                None
-            }
-        }
+        Form::Value => Some(Operand::Value(read_digits(word)?)),
+        Form::Strong => Some(Operand::Strong(read_digits(word)?)),
+        Form::Index => Some(Operand::Index(read_digits(word)?)),
+        Form::Weak => Some(Operand::Weak(read_variable(word)?)),
+        Form::WeakTarget => Some(Operand::WeakTarget(read_target(word)?)),
     }
 }
 
-/// The number of an element, below 2^32.
+/// A number below this one.
+pub fn below(number: &Number, most: u32) -> Option<u32>
+    ensures { result ≡ below most number.now }
+{
+    match number.get() {
+        Some(value) if value < most as u64 => Some(value as u32),
+        _ => None,
+    }
+}
+
+/// The number of an element, or of an index, below 2^32.
 pub fn element_in(number: &Number) -> Option<u32>
     ensures { result ≡ element_in number.now }
 {
@@ -216,13 +297,16 @@ pub fn element_in(number: &Number) -> Option<u32>
 }
 
 impl<'a> Operand<'a> {
-    /// Whether the number that the word says, if any, is in its range.
-    pub fn is_in_range(&self) -> bool
-        ensures { result ≡ is_in_range self.now }
+    /// Whether the number that the word says, if any, is in its range, where a lane has so many
+    /// strong pointers.
+    pub fn is_in_range(&self, strong: u32) -> bool
+        ensures { result ≡ is_in_range strong self.now }
     {
         match self {
             Operand::Spot(place) => element_in(&place.element).is_some(),
             Operand::Value(number) => number.get().is_some(),
+            Operand::Strong(number) => below(number, strong).is_some(),
+            Operand::Index(number) => element_in(number).is_some(),
             _ => true,
         }
     }

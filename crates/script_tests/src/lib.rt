@@ -17,6 +17,8 @@ mod inputs;
 #[cfg(test)]
 mod outside;
 #[cfg(test)]
+mod pointers;
+#[cfg(test)]
 mod rows;
 #[cfg(test)]
 mod told;

@@ -42,6 +42,26 @@ fn new(alloc: Global, var: u32, class: u32) -> Result<String, AllocError> {
     format!(in alloc; "new v{var} c{class}")
 }
 
+fn store(alloc: Global, spot: Spot, weak: Option<u32>) -> Result<String, AllocError> {
+    let spot = element(alloc, spot)?;
+    match weak {
+        Some(weak) => format!(in alloc; "store {spot} w{weak}"),
+        None => format!(in alloc; "store {spot} none"),
+    }
+}
+
+fn load(alloc: Global, weak: u32, spot: Spot) -> Result<String, AllocError> {
+    let spot = element(alloc, spot)?;
+    format!(in alloc; "load w{weak} {spot}")
+}
+
+fn hold(alloc: Global, h: u32, to: Option<u32>) -> Result<String, AllocError> {
+    match to {
+        Some(var) => format!(in alloc; "hold {h} v{var}"),
+        None => format!(in alloc; "hold {h} none"),
+    }
+}
+
 fn command(alloc: Global, cmd: LaneCmd) -> Result<String, AllocError> {
     match cmd {
         LaneCmd::Open => String::from_str(alloc, "open"),
@@ -53,6 +73,14 @@ fn command(alloc: Global, cmd: LaneCmd) -> Result<String, AllocError> {
         LaneCmd::Put { spot, value } => put(alloc, spot, value),
         LaneCmd::Take { spot } => take(alloc, spot),
         LaneCmd::Print { var } => format!(in alloc; "print v{var}"),
+        LaneCmd::Store { spot, weak } => store(alloc, spot, weak),
+        LaneCmd::Load { weak, spot } => load(alloc, weak, spot),
+        LaneCmd::Hold { h, to } => hold(alloc, h, to),
+        LaneCmd::Held { var, h } => format!(in alloc; "held v{var} {h}"),
+        LaneCmd::Weak { weak, var } => format!(in alloc; "weak w{weak} v{var}"),
+        LaneCmd::Resolve { var, weak } => format!(in alloc; "resolve v{var} w{weak}"),
+        LaneCmd::Forge { weak, index } => format!(in alloc; "forge w{weak} {index}"),
+        LaneCmd::Same { left, right } => format!(in alloc; "same w{left} w{right}"),
     }
 }
 

@@ -1,4 +1,4 @@
-use Rattle.level_script.proofs.Tables.{name_there}
+use Rattle.level_script.proofs.NameTables.{name_there}
 use Rattle.level_script.proofs.names.NameTable.add.Goals as goal
 
 pub returns-in-Some-clause-number : goal.returns-in-Some-clause-number

@@ -1,5 +1,5 @@
 use Rattle.std.proofs.Common.{◌∙◌}
-use Rattle.level_script.proofs.Tables.{name_found}
+use Rattle.level_script.proofs.NameTables.{name_found}
 use Rattle.level_script.proofs.names.NameTable.find.Goals as goal
 
 pub returns-in-Some-get_index_of : goal.returns-in-Some-get_index_of

@@ -1,7 +1,7 @@
 use Rattle.std.proofs.Common.{◌≡◌, sym, ◌∙◌, ◌%◌, map, Some, string_bytes}
 use Rattle.std.proofs.lemmas.Slice.Eq.{bytes_eq-Decides}
 use Rattle.level_script.specs.Names.{number_of_name}
-use Rattle.level_script.proofs.Tables.{name_at}
+use Rattle.level_script.proofs.NameTables.{name_at}
 use Rattle.level_script.proofs.names.NameTable.hinted.Goals as goal
 
 pub returns-then-eq : goal.returns-then-eq

@@ -4,7 +4,7 @@ use Rattle.std.specs.String.{string_eq}
 use Rattle.std.specs.List.{position_or_len}
 use Rattle.indexmap.specs.IndexSet.{insert_key}
 use Rattle.level_script.specs.Names.{number_in, with_name}
-use Rattle.level_script.proofs.Tables.{name_number, name_added}
+use Rattle.level_script.proofs.NameTables.{name_number, name_added}
 use Rattle.level_script.proofs.names.NameTable.insert.Goals as goal
 
 pub returns-clause-number : goal.returns-clause-number

@@ -1,5 +1,5 @@
 use Rattle.std.proofs.Common.{sym, ◌∙◌}
-use Rattle.level_script.proofs.Tables.{name_there, name_next}
+use Rattle.level_script.proofs.NameTables.{name_there, name_next}
 use Rattle.level_script.proofs.names.NameTable.number_for.Goals as goal
 
 pub returns-in-Some : goal.returns-in-Some
