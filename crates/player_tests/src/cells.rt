@@ -153,17 +153,17 @@ fn an_object_of_references_alone(rt: HostRuntime) {
     assert!(rt; most_elements(&rt, rt.alloc()) == Some(true));
 }
 
-// A chain of 8,000 objects from the first on; with its first object rooted, or not.
-fn chain<R: Threads + Sync>(rt: &R, alloc: Global, rooted: bool) -> Option<bool> {
+// A chain of 8,000 objects from the first on; with a strong pointer to its first object, or with none.
+fn chain<R: Threads + Sync>(rt: &R, alloc: Global, held: bool) -> Option<bool> {
     let mut script = String::from_str(
         alloc,
         "class A Object\nfield A next ref A\n0 open\n0 new n0 A\n",
     )
     .ok()?;
     let mut text = String::from_str(alloc, "0 open idle\n0 new 0:1\n").ok()?;
-    if rooted {
-        script.push_str("0 root n0 on\n").ok()?;
-        text.push_str("0 was off\n").ok()?;
+    if held {
+        script.push_str("0 hold 0 n0\n").ok()?;
+        text.push_str("0 was none\n").ok()?;
     }
     for j in 0..7999u32 {
         let k = j + 1;
@@ -174,7 +174,7 @@ fn chain<R: Threads + Sync>(rt: &R, alloc: Global, rooted: bool) -> Option<bool>
         text.push_str(line.as_str()).ok()?;
     }
     script.push_str("0 close\ngc full\n").ok()?;
-    if rooted {
+    if held {
         text.push_str("0 close\ngc full removed 0 left 0\n").ok()?;
     } else {
         text.push_str("0 close\ngc full removed 8000 left 0:").ok()?;
@@ -185,7 +185,7 @@ fn chain<R: Threads + Sync>(rt: &R, alloc: Global, rooted: bool) -> Option<bool>
         }
         text.push_str("\n").ok()?;
     }
-    let lines = if rooted { 16003 } else { 16002 };
+    let lines = if held { 16003 } else { 16002 };
     Some(writes(rt, alloc, script.as_str(), text.as_str(), lines))
 }
 

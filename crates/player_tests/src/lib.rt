@@ -10,6 +10,8 @@ mod cells;
 #[cfg(test)]
 mod faults;
 #[cfg(test)]
+mod pointers;
+#[cfg(test)]
 mod runs;
 #[cfg(test)]
 mod words;

@@ -15,10 +15,12 @@ use Rattle.level_script.specs.declared.script.Script.{Script}
 use Rattle.world_play.specs.Header.{Header}
 use Rattle.world_play.specs.Streams.{Read, Gained, line_feeds}
 use Rattle.play_io.specs.Faults.{Rose}
-use Rattle.world_model.specs.Sizes.{Sizes}
+use Rattle.world_model.specs.Sizes.{Sizes, IsLawful, level_is_lawful, small_is_lawful}
+use Rattle.class_schema.specs.Lawful.{IsSchema}
 use Rattle.world_play.specs.Words.{sizes_of}
 use Rattle.world_play.specs.declared.words.Words.{Words}
 use Rattle.world_play.specs.declared.words.ShapeName.{ShapeName}
+use Rattle.world_play.specs.declared.words.ShapeName.TheVariants as shape
 use Rattle.world_model.specs.State.{State, beginning}
 use Rattle.world_model.specs.Next.{run}
 use Rattle.world_model.specs.Histories.{Legal}
@@ -222,26 +224,31 @@ framed_classes vars header frames (l ∷ lines) h =
     (fits_class vars header frames l.cmd parts.0, framed_classes vars header (frame.frames_after frames l.cmd) lines parts.1)
 
 outcome_played : OneText → (z : Sizes) (budget : ℕ) (limits : Limits) (script : Script) (history : List Entry) (had has : Option (List ℕ))
-    → IsPlayable limits script → Played z budget (header_of script) script.lines history had has
+    → IsLawful z → IsSchema script.classes → IsPlayable limits script → Played z budget (header_of script) script.lines history had has
     → Gained had has (outcome z (header_of script) script.lines)
-outcome_played law z budget limits script history had has can h =
+outcome_played law z budget limits script history had has lawful schema can h =
     subst (Gained had has)
-    (law z budget (header_of script) script.lines h.pieces h.replies h.last can.classes can.at_once
+    (law z budget (header_of script) script.lines h.pieces h.replies h.last lawful schema can.at_once
     (framed_classes script.vars (header_of script) _ script.lines can.framed) (subst (Legal z) h.cut h.legal) h.plays)
     h.put
 
+-- the sizes of a shape are in their ranges
+lawful_shape : (name : ShapeName) → IsLawful (sizes_of name)
+lawful_shape shape.Level = level_is_lawful
+lawful_shape shape.Small = small_is_lawful
+
 pub outcome_of_run : OneText
     → (w : Words) (how : Status) (left : Option (List ℕ)) (script : Script) (r : Option Run) (had has : Option (List ℕ)) (count : ℕ)
-    → IsPlayable (limits_in w.shape) script → IsScript (limits_in w.shape) left script → HasRun how r → PlayedAs w how script r had has count
+    → IsSchema script.classes → IsPlayable (limits_in w.shape) script → IsScript (limits_in w.shape) left script → HasRun how r → PlayedAs w how script r had has count
     → OnDone how (WritesOutcome w.shape left had has)
-outcome_of_run law w status.Ok left script None had has count can is there h = absurd (there refl)
-outcome_of_run law w status.Ok left script (Some engine) had has count can is there h =
-    record { script = script; read = is; gained = outcome_played law (sizes_of w.shape) w.slice (limits_in w.shape) script _ had has can h.0 }
-outcome_of_run law w status.Usage left script r had has count can is there h = tt
-outcome_of_run law w (status.Script fault) left script r had has count can is there h = tt
-outcome_of_run law w status.ReadFault left script r had has count can is there h = tt
-outcome_of_run law w status.WriteFault left script r had has count can is there h = tt
-outcome_of_run law w status.Memory left script r had has count can is there h = tt
+outcome_of_run law w status.Ok left script None had has count schema can is there h = absurd (there refl)
+outcome_of_run law w status.Ok left script (Some engine) had has count schema can is there h =
+    record { script = script; read = is; gained = outcome_played law (sizes_of w.shape) w.slice (limits_in w.shape) script _ had has (lawful_shape w.shape) schema can h.0 }
+outcome_of_run law w status.Usage left script r had has count schema can is there h = tt
+outcome_of_run law w (status.Script fault) left script r had has count schema can is there h = tt
+outcome_of_run law w status.ReadFault left script r had has count schema can is there h = tt
+outcome_of_run law w status.WriteFault left script r had has count schema can is there h = tt
+outcome_of_run law w status.Memory left script r had has count schema can is there h = tt
 
 ends_early : (w : Words) (left : Option (List ℕ)) (script : Script) (engine : Run) (had has : Option (List ℕ)) (count : ℕ)
     → IsScript (limits_in w.shape) left script → Stopped (sizes_of w.shape) w.slice (header_of script) script.lines (history_of engine) had has count

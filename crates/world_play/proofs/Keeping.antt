@@ -1,16 +1,17 @@
 -- What the variables show, as they are bound and as frames end.
-use Rattle.std.proofs.Common.{◌≡◌, ℕ, ◌+◌, ◌<◌, ◌≤◌, ◌==◌, Bool, true, false, cond, List, [], ◌∷◌, ◌++◌, drop, length, replicate, set, slice_get, refl, sym, ap, ◌∙◌, subst, arith, zero, suc, Option, Some, None, IfSome, option_map}
+use Rattle.std.proofs.Common.{◌≡◌, ℕ, ◌+◌, ◌<◌, ◌≤◌, ◌==◌, Bool, true, false, cond, List, [], ◌∷◌, ◌++◌, drop, length, replicate, set, get_or, slice_get, refl, sym, ap, ◌∙◌, subst, arith, zero, suc, Option, Some, None, IfSome, option_map}
 use Rattle.std.specs.Option.{option_and_then}
 use Rattle.std.specs.Option.{option_map_or}
 use Rattle.std.specs.Prelude.{slice_index}
 use Rattle.std.proofs.lemmas.Bool.{eqb-true, eq-eqb}
 use Rattle.std.proofs.lemmas.Bool.Decides.{nat_tests}
-use Rattle.std.proofs.lemmas.List.{length-map, length-replicate}
+use Rattle.std.proofs.lemmas.List.{length-map, length-replicate, length-set}
 use Rattle.world_model.specs.NameLists.{set_at}
 use Rattle.world_model.specs.Engines.{Holdings, KeepsHeld, KeepsOthers}
-use Rattle.world_play.specs.Types.{Name, Ref}
-use Rattle.world_play.specs.Bindings.{no_bindings, bound, ended}
-use Rattle.world_play.specs.Variables.{Standing, unbound, with_ref, without_refs, shown, AreHeld, lane_ref, ref_of, numbers_of}
+use Rattle.world_play.specs.Types.{Name, Ref, Weak}
+use Rattle.world_play.specs.Pairs.{no_pair}
+use Rattle.world_play.specs.Bindings.{no_bindings, bound, weak_bound, ended}
+use Rattle.world_play.specs.Variables.{Standing, unbound, with_ref, with_weak, without_refs, shown, AreHeld, lane_ref, ref_of, numbers_of, weak_of}
 use Rattle.world_play.specs.Slots.{slot_of, live, AreDated}
 use Rattle.world_play.specs.declared.variables.Bound.{Bound}
 use Rattle.world_play.specs.declared.variables.LaneVariables.{LaneVariables}
@@ -144,11 +145,22 @@ fresh_numbers (l ∷ lanes) (c ∷ counts) h =
     λ i. first i ∷ fresh_numbers lanes counts h.1 i
 
 -- what lanes show
-abbrev pub shows : List LaneVariables → Standing
-shows lanes = record { refs = ref_of lanes; counts = numbers_of lanes }
+abbrev pub shows : List LaneVariables → List Weak → Standing
+shows lanes weaks = record { refs = ref_of lanes; weaks = weak_of weaks; counts = record { lanes = numbers_of lanes; weaks = length weaks } }
 
-pub fresh_standing : (lanes : List LaneVariables) (counts : List ℕ) → AreFresh lanes counts → shows lanes ≡ unbound counts
-fresh_standing lanes counts h = λ i. record { refs = λ lane var. fresh_refs lanes counts h lane var i; counts = fresh_numbers lanes counts h i }
+empty_pairs : (count weak : ℕ) → weak_of (replicate count no_pair) weak ≡ no_pair
+empty_pairs zero weak = refl
+empty_pairs (suc count) zero = refl
+empty_pairs (suc count) (suc weak) = empty_pairs count weak
+
+pub fresh_standing : (lanes : List LaneVariables) (counts : List ℕ) (count : ℕ) → AreFresh lanes counts → shows lanes (replicate count no_pair) ≡ unbound counts count
+fresh_standing lanes counts count h =
+    λ i.
+    record {
+      refs = λ lane var. fresh_refs lanes counts h lane var i;
+      weaks = λ weak. empty_pairs count weak i;
+      counts = record { lanes = fresh_numbers lanes counts h i; weaks = length-replicate count no_pair i };
+    }
 
 -- the lane and the variable that are there
 pub lane_inside : (lanes : List LaneVariables) (lane : ℕ) → lane < length (numbers_of lanes) → lane < length lanes
@@ -180,15 +192,16 @@ numbers_set (x ∷ lanes) zero l new e len =
 numbers_set (x ∷ lanes) (suc lane) l new e len = λ i. length x.slots.items ∷ numbers_set lanes lane l new e len i
 
 -- one lane's variables are others
-set_standing : (lanes : List LaneVariables) (lane : ℕ) (l new : LaneVariables) (own : ℕ → Option Ref) → slice_get lanes lane ≡ Some l
+set_standing : (lanes : List LaneVariables) (weaks : List Weak) (lane : ℕ) (l new : LaneVariables) (own : ℕ → Option Ref) → slice_get lanes lane ≡ Some l
     → lane < length lanes → length new.slots.items ≡ length l.slots.items → ((v : ℕ) → lane_ref new v ≡ own v)
-    → shows (set lanes lane new) ≡ record { refs = set_at (ref_of lanes) lane own; counts = numbers_of lanes }
-set_standing lanes lane l new own e h len refs =
+    → shows (set lanes lane new) weaks ≡ record { refs = set_at (ref_of lanes) lane own; weaks = weak_of weaks; counts = (shows lanes weaks).counts }
+set_standing lanes weaks lane l new own e h len refs =
     λ i.
     record {
       refs =
           λ j v. (ref_set lanes lane new j v h ∙ ap (λ (o : Option Ref). cond (j == lane) o (ref_of lanes j v)) (refs v) ∙ at j v (j == lane)) i;
-      counts = numbers_set lanes lane l new e len i;
+      weaks = weak_of weaks;
+      counts = record { lanes = numbers_set lanes lane l new e len i; weaks = length weaks };
     }
   where
     at : (j v : ℕ) (b : Bool) → cond b (own v) (ref_of lanes j v) ≡ cond {A = ℕ → Option Ref} b own (ref_of lanes j) v
@@ -196,27 +209,49 @@ set_standing lanes lane l new own e h len refs =
     at j v false = refl
 
 -- a variable is bound
-pub bind_standing : (lanes : List LaneVariables) (lane var : ℕ) (l new : LaneVariables) (to : Option Ref) → slice_get lanes lane ≡ Some l
+pub bind_standing : (lanes : List LaneVariables) (weaks : List Weak) (lane var : ℕ) (l new : LaneVariables) (to : Option Ref) → slice_get lanes lane ≡ Some l
     → lane < length lanes → new.frame ≡ l.frame → new.slots.items ≡ set l.slots.items var (slot_of l.frame to)
     → length new.slots.items ≡ length l.slots.items → var < length l.slots.items
-    → shows (set lanes lane new) ≡ with_ref (shows lanes) lane var to
-bind_standing lanes lane var l new to e h frame slots len inside =
-    set_standing lanes lane l new (set_at (ref_of lanes lane) var to) e h len
+    → shows (set lanes lane new) weaks ≡ with_ref (shows lanes weaks) lane var to
+bind_standing lanes weaks lane var l new to e h frame slots len inside =
+    set_standing lanes weaks lane l new (set_at (ref_of lanes lane) var to) e h len
     (λ v. bind_ref l new var to v frame slots inside ∙ ap (λ (o : Option Ref). cond (v == var) to o) (sym (own_ref lanes lane l v e)))
 
 -- a frame ends
-pub end_standing : (lanes : List LaneVariables) (lane : ℕ) (l new : LaneVariables) → slice_get lanes lane ≡ Some l → lane < length lanes
+pub end_standing : (lanes : List LaneVariables) (weaks : List Weak) (lane : ℕ) (l new : LaneVariables) → slice_get lanes lane ≡ Some l → lane < length lanes
     → length new.slots.items ≡ length l.slots.items → ((v : ℕ) → lane_ref new v ≡ None)
-    → shows (set lanes lane new) ≡ without_refs (shows lanes) lane
-end_standing lanes lane l new e h len none = set_standing lanes lane l new (λ v. None) e h len none
+    → shows (set lanes lane new) weaks ≡ without_refs (shows lanes weaks) lane
+end_standing lanes weaks lane l new e h len none = set_standing lanes weaks lane l new (λ v. None) e h len none
+
+-- what a place has after another value was put into the list
+pub get_or-set : {A : Type 0} (xs : List A) (i j : ℕ) (y d : A) → i < length xs → get_or (set xs i y) j d ≡ cond (j == i) y (get_or xs j d)
+get_or-set [] i j y d h = absurd (omega arith)
+get_or-set (x ∷ xs) zero zero y d h = refl
+get_or-set (x ∷ xs) zero (suc j) y d h = let t : (suc j == 0) ≡ false = grind (arith, nat_tests) in rw t refl
+get_or-set (x ∷ xs) (suc i) zero y d h = let t : (0 == suc i) ≡ false = grind (arith, nat_tests) in rw t refl
+get_or-set (x ∷ xs) (suc i) (suc j) y d h = let t : (suc j == suc i) ≡ (j == i) = grind (arith, nat_tests) in rw t (get_or-set xs i j y d (omega arith))
+
+-- a weak variable gets a pair
+pub weak_standing : (lanes : List LaneVariables) (weaks : List Weak) (weak : ℕ) (pair : Weak) → weak < length weaks
+    → shows lanes (set weaks weak pair) ≡ with_weak (shows lanes weaks) weak pair
+weak_standing lanes weaks weak pair h =
+    λ i.
+    record {
+      refs = ref_of lanes;
+      weaks = λ j. get_or-set weaks weak j pair no_pair h i;
+      counts = record { lanes = numbers_of lanes; weaks = length-set weaks weak pair i };
+    }
 
 -- ---- the bindings
 
-pub unbound_shown : (counts : List ℕ) → shown (unbound counts) ≡ no_bindings
-unbound_shown counts = refl
+pub unbound_shown : (counts : List ℕ) (weaks : ℕ) → shown (unbound counts weaks) ≡ no_bindings
+unbound_shown counts weaks = refl
+
+pub weak_shown : (v : Standing) (weak : ℕ) (pair : Weak) → shown (with_weak v weak pair) ≡ weak_bound (shown v) weak pair
+weak_shown v weak pair = refl
 
 pub bind_shown : (v : Standing) (lane var : ℕ) (to : Option Ref) → shown (with_ref v lane var to) ≡ bound (shown v) lane var (option_map (λ r. r.name) to)
-bind_shown v lane var to = λ i. record { objects = λ j w. go j w (j == lane) (w == var) refl i }
+bind_shown v lane var to = λ i. record { objects = λ j w. go j w (j == lane) (w == var) refl i; weaks = v.weaks }
   where
     go : (j w : ℕ) (b c : Bool) → (w == var) ≡ c → option_map (λ (r : Ref). r.name) (cond {A = ℕ → Option Ref} b (set_at (v.refs lane) var to) (v.refs j) w)
         ≡ cond {A = ℕ → Option Name} b (set_at ((shown v).objects lane) var (option_map (λ r. r.name) to)) ((shown v).objects j) w
@@ -225,7 +260,7 @@ bind_shown v lane var to = λ i. record { objects = λ j w. go j w (j == lane) (
     go j w false c is = refl
 
 pub end_shown : (v : Standing) (lane : ℕ) → shown (without_refs v lane) ≡ ended (shown v) lane
-end_shown v lane = λ i. record { objects = λ j w. go j w (j == lane) i }
+end_shown v lane = λ i. record { objects = λ j w. go j w (j == lane) i; weaks = v.weaks }
   where
     go : (j w : ℕ) (b : Bool) → option_map (λ (r : Ref). r.name) (cond {A = ℕ → Option Ref} b (λ x. None) (v.refs j) w) ≡ cond {A = ℕ → Option Name} b (λ x. None) ((shown v).objects j) w
     go j w true = refl
@@ -233,8 +268,8 @@ end_shown v lane = λ i. record { objects = λ j w. go j w (j == lane) i }
 
 -- ---- what is held
 
-pub unbound_held : (holds : Holdings) (counts : List ℕ) → AreHeld holds (unbound counts)
-unbound_held holds counts lane var r e = absurd cc
+pub unbound_held : (holds : Holdings) (counts : List ℕ) (weaks : ℕ) → AreHeld holds (unbound counts weaks)
+unbound_held holds counts weaks lane var r e = absurd cc
 
 pub held_on : (holds holds' : Holdings) (v : Standing) → KeepsHeld holds holds' → AreHeld holds v → AreHeld holds' v
 held_on holds holds' v keeps h lane var r e = keeps lane r (h lane var r e)

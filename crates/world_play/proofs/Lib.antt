@@ -2,6 +2,7 @@ pub mod Order
 pub mod Different
 pub mod Destroying
 pub mod Removing
+pub mod Meaning
 pub mod Telling
 pub mod Purging
 pub mod Lines

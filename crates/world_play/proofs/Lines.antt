@@ -13,7 +13,7 @@ use Rattle.class_schema.specs.Class.{Class}
 use Rattle.class_schema.specs.Ancestry.{object, class_at}
 use Rattle.world_play.specs.Types.{Name, ClassId, Phase, Idle, Marking, Gathering, Reply}
 use Rattle.world_play.specs.Types.reply
-use Rattle.world_play.specs.Text.{phase_text, object_text, name_text, names_text, text_of}
+use Rattle.world_play.specs.Text.{phase_text, object_text, weak_text, name_text, names_text, text_of}
 use Rattle.world_play.specs.Streams.{IsStart, line_feeds}
 
 -- no byte is a line feed
@@ -106,6 +106,14 @@ plain_was : (was : Bool) → IsPlain (cond was (codes "on") (codes "off"))
 plain_was true = record { none = refl }
 plain_was false = record { none = refl }
 
+plain_weak : (there : Bool) → IsPlain (weak_text there)
+plain_weak true = record { none = refl }
+plain_weak false = record { none = refl }
+
+plain_same : (same : Bool) → IsPlain (cond same (codes "yes") (codes "no"))
+plain_same true = record { none = refl }
+plain_same false = record { none = refl }
+
 -- the class of a reply has a name without a line feed
 abbrev pub ToldPlain : List Class → Reply → Type 0
 ToldPlain classes (reply.Object lane n class) = IsPlain (class_at classes class).name
@@ -128,6 +136,12 @@ is_line classes (reply.Was lane old) plain = before (decimal lane) _ (plain_deci
 is_line classes (reply.WasNumber lane old) plain = before (decimal lane) _ (plain_decimal lane) (words (codes " was ") _ refl (before (decimal old) _ (plain_decimal old) ends))
 is_line classes (reply.Is lane got) plain = before (decimal lane) _ (plain_decimal lane) (words (codes " is ") _ refl (before (object_text got) _ (plain_object got) ends))
 is_line classes (reply.IsNumber lane got) plain = before (decimal lane) _ (plain_decimal lane) (words (codes " is ") _ refl (before (decimal got) _ (plain_decimal got) ends))
+is_line classes (reply.WasWeak lane was) plain = before (decimal lane) _ (plain_decimal lane) (words (codes " was ") _ refl (before (weak_text was) _ (plain_weak was) ends))
+is_line classes (reply.IsWeak lane is) plain = before (decimal lane) _ (plain_decimal lane) (words (codes " is ") _ refl (before (weak_text is) _ (plain_weak is) ends))
+is_line classes (reply.WeakMade lane n) plain = before (decimal lane) _ (plain_decimal lane) (words (codes " weak ") _ refl (before (object_text (Some n)) _ (plain_object (Some n)) ends))
+is_line classes (reply.SerialsSpent lane made) plain = before (decimal lane) _ (plain_decimal lane) (words (codes " serials spent ") _ refl (before (decimal made) _ (plain_decimal made) ends))
+is_line classes (reply.Forged lane) plain = before (decimal lane) _ (plain_decimal lane) (words (codes " forged") (codes "\n") refl ends)
+is_line classes (reply.Same lane same) plain = before (decimal lane) _ (plain_decimal lane) (words (codes " same ") _ refl (before (cond same (codes "yes") (codes "no")) _ (plain_same same) ends))
 is_line classes (reply.Object lane n class) plain =
     before (decimal lane) _ (plain_decimal lane)
     (words (codes " object ") _ refl
@@ -191,6 +205,12 @@ some_text classes (reply.Was lane old) = line_some _ (is_line classes (reply.Was
 some_text classes (reply.WasNumber lane old) = line_some _ (is_line classes (reply.WasNumber lane old) tt)
 some_text classes (reply.Is lane got) = line_some _ (is_line classes (reply.Is lane got) tt)
 some_text classes (reply.IsNumber lane got) = line_some _ (is_line classes (reply.IsNumber lane got) tt)
+some_text classes (reply.WasWeak lane was) = line_some _ (is_line classes (reply.WasWeak lane was) tt)
+some_text classes (reply.IsWeak lane is) = line_some _ (is_line classes (reply.IsWeak lane is) tt)
+some_text classes (reply.WeakMade lane n) = line_some _ (is_line classes (reply.WeakMade lane n) tt)
+some_text classes (reply.SerialsSpent lane made) = line_some _ (is_line classes (reply.SerialsSpent lane made) tt)
+some_text classes (reply.Forged lane) = line_some _ (is_line classes (reply.Forged lane) tt)
+some_text classes (reply.Same lane same) = line_some _ (is_line classes (reply.Same lane same) tt)
 some_text classes (reply.NoObject lane) = line_some _ (is_line classes (reply.NoObject lane) tt)
 some_text classes (reply.NoField lane) = line_some _ (is_line classes (reply.NoField lane) tt)
 some_text classes (reply.WrongKind lane) = line_some _ (is_line classes (reply.WrongKind lane) tt)

@@ -19,14 +19,15 @@ use Rattle.world_play.specs.Types.cmd
 use Rattle.world_play.specs.Types.lane_cmd
 use Rattle.world_play.specs.Types.gc_cmd
 use Rattle.level_script.specs.Frames as frame
-use Rattle.level_script.specs.Frames.{opened_after, fits_lane, are_framed}
+use Rattle.level_script.specs.Frames.{opened_after, fits_lane, fits_script, are_framed}
+use Rattle.std.specs.List.{list_all}
 use Rattle.world_play.specs.Bindings.{Bindings, no_bindings}
 use Rattle.world_play.specs.Plays.{TurnBy, IsPart, Plays, text, entries_of, fits, frames_by, are_fit}
 use Rattle.world_play.specs.Streams.{Gained, GainedStart}
 use Rattle.world_play.specs.Variables.{Standing, shown, AreHeld}
 use Rattle.world_play.specs.Turns.{frames_of, AreMade, IsReady, LaneDid, Turned, IsPiece, Broken, Stops, Unanswered, Stopped}
 use Rattle.world_play.specs.Stages.{Collects, CollectsSome}
-use Rattle.world_play.proofs.Keeping.{held_on}
+use Rattle.world_play.proofs.Keeping.{held_on, get_or-set}
 use Rattle.world_play.proofs.Turning.{lane_leaves, fits_class, made_on}
 use Rattle.world_play.proofs.Streams.{gained_none, gained_both}
 use Rattle.world_play.proofs.Lines.{start_none}
@@ -40,7 +41,7 @@ pub lane_turned : (z : Sizes) (budget : ℕ) (header : Header) (old new : List E
 lane_turned z budget header old new held holds before now lane what r ready did keeps counts =
     let leaves =
     lane_leaves header (state_of old) (shown before) (shown now) lane what did.piece r
-    (fits_class z.lanes before.counts header (frames_of (after old)) (cmd.Lane lane what) ready.fit) ready.made did.turn in
+    (fits_class z.lanes before.counts.lanes header (frames_of (after old)) (cmd.Lane lane what) ready.fit) ready.made did.turn in
     let left : state_of new ≡ run (state_of old) did.piece = ap state_of did.grown ∙ run-append beginning old did.piece in
     record {
       piece = did.piece;
@@ -187,14 +188,14 @@ pub fit_at : (lanes : ℕ) (vars : List ℕ) (header : Header) (opened : ℕ →
     → (fits lanes vars header opened (get_or ls i d).cmd ≡ true) × (are_fit lanes vars header (frames_by opened (get_or ls i d).cmd) (drop (i + 1) ls) ≡ true)
 fit_at lanes vars header opened ls i d h e = rw add-one (fit_first lanes vars header opened (get_or ls i d) _ (sym (ap (are_fit lanes vars header opened) (drop-cons ls i d h)) ∙ e))
 
--- ---- the frames of a script
+-- what all lines name of weak variables and strong pointers is there for each of them
+pub beside_at : (weaks strong : ℕ) (ls : List Line) (i : ℕ) (d : Line) → i < length ls → list_all (λ l. fits_script weaks strong l.cmd) ls ≡ true
+    → fits_script weaks strong (get_or ls i d).cmd ≡ true
+beside_at weaks strong [] i d h e = absurd (omega arith)
+beside_at weaks strong (l ∷ ls) zero d h e = (and_true (fits_script weaks strong l.cmd) _ e).0
+beside_at weaks strong (l ∷ ls) (suc i) d h e = beside_at weaks strong ls i d (omega arith) (and_true (fits_script weaks strong l.cmd) _ e).1
 
-get_or-set : (xs : List Bool) (i j : ℕ) (y : Bool) → i < length xs → get_or (set xs i y) j false ≡ cond (j == i) y (get_or xs j false)
-get_or-set [] i j y h = absurd (omega arith)
-get_or-set (x ∷ xs) zero zero y h = refl
-get_or-set (x ∷ xs) zero (suc j) y h = let t : (suc j == 0) ≡ false = grind (arith, nat_tests) in rw t refl
-get_or-set (x ∷ xs) (suc i) zero y h = let t : (0 == suc i) ≡ false = grind (arith, nat_tests) in rw t refl
-get_or-set (x ∷ xs) (suc i) (suc j) y h = let t : (suc j == suc i) ≡ (j == i) = grind (arith, nat_tests) in rw t (get_or-set xs i j y (omega arith))
+-- ---- the frames of a script
 
 -- the frames are open alike, by list and by number
 abbrev pub SameFrames : List Bool → (ℕ → Bool) → Type 0
@@ -202,8 +203,8 @@ SameFrames frames opened = (lane : ℕ) → get_or frames lane false ≡ opened 
 
 after_lane : (frames : List Bool) (opened : ℕ → Bool) (lane : ℕ) (what : LaneCmd) → lane < length frames → SameFrames frames opened
     → SameFrames (set frames lane (opened_after what (get_or frames lane false))) (frames_by opened (cmd.Lane lane what))
-after_lane frames opened lane lane_cmd.Open h same j = get_or-set frames lane j true h ∙ ap (λ (b : Bool). cond (j == lane) true b) (same j)
-after_lane frames opened lane lane_cmd.Close h same j = get_or-set frames lane j false h ∙ ap (λ (b : Bool). cond (j == lane) false b) (same j)
+after_lane frames opened lane lane_cmd.Open h same j = get_or-set frames lane j true false h ∙ ap (λ (b : Bool). cond (j == lane) true b) (same j)
+after_lane frames opened lane lane_cmd.Close h same j = get_or-set frames lane j false false h ∙ ap (λ (b : Bool). cond (j == lane) false b) (same j)
 after_lane frames opened lane what h same j = ap (λ (fs : List Bool). get_or fs j false) (set-get_or frames lane false) ∙ same j
 
 -- a line that is framed by list fits by number, and the frames after it are alike

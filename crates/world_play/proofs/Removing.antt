@@ -1,20 +1,24 @@
 -- What a whole collection removes and finds in a legal history.
-use Rattle.std.proofs.Common.{◌≡◌, ℕ, ◌+◌, ◌*◌, ◌<◌, ◌≤◌, arith, length, refl, sym, subst, ap, ◌∙◌, inl, inr, Bool, cond, true, false, not, ◌&&◌, List, [], ◌∷◌, ◌++◌, append_assoc, map, Option, Some, None, ◌⊎◌, filter}
-use Rattle.std.specs.List.{list_any, list_all, flat_map}
+use Rattle.std.proofs.Common.{◌≡◌, ℕ, ◌+◌, ◌*◌, ◌<◌, ◌≤◌, arith, length, refl, sym, subst, ap, ◌∙◌, inl, inr, Bool, cond, true, false, not, ◌&&◌, ◌||◌, List, [], ◌∷◌, ◌++◌, append_assoc, map, Option, Some, None, ◌⊎◌, filter}
+use Rattle.std.specs.List.{list_any, list_all, flat_map, range_with_len}
+use Rattle.std.specs.Option.{is_some}
+use Rattle.std.proofs.Math.Logic.{dite}
+use Rattle.std.proofs.Math.Decide.{dec_le}
+use Rattle.std.proofs.Math.Nat.{lt_of_not-le}
 use Rattle.std.proofs.lemmas.List.{length-map}
 use Rattle.std.proofs.lemmas.Bool.{both_ways, not-true, false_from_ne_true}
 use Rattle.world_model.specs.Sizes.{Sizes}
 use Rattle.world_model.specs.NameLists.{same_name, has, all_different, members}
-use Rattle.world_model.specs.World.{World, Removal, Removed, is_at}
-use Rattle.world_model.specs.Reach.{graph, IsUnit, IsRootUnit, IsReached}
+use Rattle.world_model.specs.World.{World, Pair, Removal, Removed, is_at, pair_of, drawn}
+use Rattle.world_model.specs.Reach.{graph, IsUnit, IsRoot, IsRootUnit, IsReached}
 use Rattle.world_model.specs.State.{State, Marks, is_marked, white_units}
 use Rattle.world_model.specs.CollectorSteps.{IsIdle, Sweeps, SweepMay}
 use Rattle.world_model.specs.Next.{next, run, committed, with_found, settled}
 use Rattle.world_model.specs.Histories.{state_of, after, Legal, LegalFrom}
 use Rattle.world_model.specs.Calls.{by, by_marker}
 use Rattle.world_model.specs.Laws.{started, done, KeepsReached}
-use Rattle.world_model.proofs.ListFacts.{and_true, or_true, Among, contains_among, among_contains, filter_among, among_filter_test, among_test, test_among}
-use Rattle.world_model.proofs.NameFacts.{same_name_true, has_among, among_has}
+use Rattle.world_model.proofs.ListFacts.{and_true, or_true, or_right, Among, contains_among, among_contains, filter_among, among_filter_test, among_test, test_among}
+use Rattle.world_model.proofs.NameFacts.{same_name_true, same_name_refl, has_among, among_has}
 use Rattle.world_model.proofs.Joins.{run-append, by-append, legal_split, legal_join}
 use Rattle.world_model.proofs.Collections.{all_append, keeps_mark, slices_mark, collect_is_exact_holds}
 use Rattle.world_model.proofs.Progress.{marks_leave}
@@ -24,9 +28,9 @@ use Rattle.world_play.specs.Types.{Name, Kind, Phase, Idle, Marking, Swept, Swee
 use Rattle.world_play.specs.Types.act
 use Rattle.world_play.specs.Types.sweep
 use Rattle.world_play.specs.Collections.{SweepsMore, SweepsAll, Collected}
-use Rattle.world_play.specs.Outcome.{Scene, is_reached, unreached, collected}
+use Rattle.world_play.specs.Outcome.{Scene, is_named_by, is_named, is_root, is_reached, unreached, collected}
 use Rattle.world_model.specs.Reached.{TellsRoots}
-use Rattle.world_model.proofs.Reached.{reached_told, told_reached}
+use Rattle.world_model.proofs.Reached.{range_among, reached_told, told_reached}
 use Rattle.world_model.specs.Hooks.{class_of}
 use Rattle.world_play.proofs.Order.{same_order}
 use Rattle.world_play.proofs.Destroying.{weight, weight_most, names_of, removed_name, InTable, purges_end}
@@ -37,18 +41,31 @@ use Rattle.world_model.proofs.Turns.{some_units}
 -- ---- what a world shows
 
 abbrev pub scene_of : World → Scene
-scene_of w = record { kinds = w.kinds; cell = w.cell; plain = w.plain; units = w.units; rooted = w.rooted; opened = w.opened }
+scene_of w =
+    record {
+      kinds = w.kinds;
+      cell = w.cell;
+      units = w.units;
+      rooted = w.rooted;
+      strong = w.strong;
+      paired = λ n. is_some (pair_of w n);
+      drawn = λ lane. drawn w lane;
+      opened = w.opened;
+    }
 
--- no collection runs, nothing is removed that is not released, objects have so many cells, and no strong pointer names one
-pub record AreStill (slots : ℕ) (phase : Phase) (removals : List Removal) (kinds : ℕ → List Kind) (cell : Name → ℕ → Option Name) (strong : ℕ → ℕ → Option Name) : Type 0 where
+-- no collection runs, nothing is removed that is not released, objects have so many cells, lanes so many strong pointers, no object is garbage, and indexes are below 2^32
+pub record AreStill (z : Sizes) (phase : Phase) (removals : List Removal) (kinds : ℕ → List Kind) (cell : Name → ℕ → Option Name)
+    (strong : ℕ → ℕ → Option Name) (garbage : Name → Bool) (pairs : List Pair) : Type 0 where
   pub idle : phase ≡ Idle
   pub released : removals ≡ []
-  pub cells : (n : Name) (slot : ℕ) → slots ≤ slot → cell n slot ≡ None
-  pub pointers : (lane number : ℕ) → strong lane number ≡ None
-  pub fits : (lane i : ℕ) (k : Kind) → slice_get (kinds lane) i ≡ Some k → k.refs ≤ slots
+  pub cells : (n : Name) (slot : ℕ) → z.slots ≤ slot → cell n slot ≡ None
+  pub pointers : (lane number : ℕ) → (z.lanes ≤ lane) ⊎ (z.strong ≤ number) → strong lane number ≡ None
+  pub fits : (lane i : ℕ) (k : Kind) → slice_get (kinds lane) i ≡ Some k → k.refs ≤ z.slots
+  pub valid : (n : Name) → garbage n ≡ false
+  pub small : (p : Pair) → Among pairs p → p.weak.index < 4294967296
 
 abbrev pub IsCalm : Sizes → World → Type 0
-IsCalm z w = AreStill z.slots w.phase w.removals w.kinds w.cell w.strong
+IsCalm z w = AreStill z w.phase w.removals w.kinds w.cell w.strong w.garbage w.pairs
 
 -- ---- what is reached
 
@@ -56,26 +73,57 @@ IsCalm z w = AreStill z.slots w.phase w.removals w.kinds w.cell w.strong
 none_some : {A : Type 0} (o : Option A) (x : A) → o ≡ None → o ≡ Some x → ⊥
 none_some o x none some = absurd cc
 
--- a root unit is one with a rooted member
-roots_told : (z : Sizes) (w : World) → IsCalm z w → TellsRoots (graph w) (list_any w.rooted)
+-- the test of a strong pointer tells which object it names
+named_some : (n : Name) (o : Option Name) → is_named_by n o ≡ true → o ≡ Some n
+named_some n None e = absurd cc
+named_some n (Some to) e = ap Some (sym (same_name_true n to e))
+
+some_named : (n : Name) (o : Option Name) → o ≡ Some n → is_named_by n o ≡ true
+some_named n o e = ap (is_named_by n) e ∙ same_name_refl n
+
+named_strong : (z : Sizes) (w : World) (n : Name) → is_named z (scene_of w) n ≡ true → (lane : ℕ) × (number : ℕ) × (w.strong lane number ≡ Some n)
+named_strong z w n e =
+    let lane = test_among (λ lane. list_any (λ h. is_named_by n (w.strong lane h)) (range_with_len 0 z.strong)) (range_with_len 0 z.lanes) e in
+    let number = test_among (λ h. is_named_by n (w.strong lane.0 h)) (range_with_len 0 z.strong) lane.2 in
+    (lane.0, number.0, named_some n (w.strong lane.0 number.0) number.2)
+
+strong_named : (z : Sizes) (w : World) (n : Name) (lane number : ℕ) → IsCalm z w → w.strong lane number ≡ Some n → is_named z (scene_of w) n ≡ true
+strong_named z w n lane number calm e =
+    let out : (z.lanes ≤ lane) ⊎ (z.strong ≤ number) → ⊥ = λ high. none_some (w.strong lane number) n (calm.pointers lane number high) e in
+    among_test (λ lane. list_any (λ h. is_named_by n (w.strong lane h)) (range_with_len 0 z.strong)) (range_with_len 0 z.lanes) lane
+    (range_among 0 z.lanes lane (omega arith) (dite (dec_le z.lanes lane) (λ high. absurd (out (inl high))) (λ low. omega (arith, lt_of_not-le low))))
+    (among_test (λ h. is_named_by n (w.strong lane h)) (range_with_len 0 z.strong) number
+    (range_among 0 z.strong number (omega arith) (dite (dec_le z.strong number) (λ high. absurd (out (inr high))) (λ low. omega (arith, lt_of_not-le low))))
+    (some_named n (w.strong lane number) e))
+
+-- a root unit is one with a member that is rooted or that a strong pointer names
+roots_told : (z : Sizes) (w : World) → IsCalm z w → TellsRoots (graph w) (is_root z (scene_of w))
 roots_told z w calm = record {
-  sound = λ u h. let found = test_among w.rooted u h in (found.0, among_has u found.0 found.1, inl found.2);
+  sound = λ u h. let found = test_among member u h in (found.0, among_has u found.0 found.1, is found.0 (or_true (w.rooted found.0) (is_named z (scene_of w) found.0) found.2));
   whole = λ u root. told u root;
 }
   where
-    told : (u : List Name) → IsRootUnit (graph w) u → list_any w.rooted u ≡ true
-    told u (n, own, inl rooted) = among_test w.rooted u n (has_among u n own) rooted
-    told u (n, own, inr strong) = absurd (none_some (w.strong strong.0 strong.1) n (calm.pointers strong.0 strong.1) strong.2)
+    member : Name → Bool
+    member n = w.rooted n || is_named z (scene_of w) n
+
+    is : (n : Name) → (w.rooted n ≡ true) ⊎ (is_named z (scene_of w) n ≡ true) → IsRoot (graph w) n
+    is n (inl rooted) = inl rooted
+    is n (inr named) = inr (named_strong z w n named)
+
+    told : (u : List Name) → IsRootUnit (graph w) u → is_root z (scene_of w) u ≡ true
+    told u (n, own, inl rooted) = among_test member u n (has_among u n own) (rw rooted refl)
+    told u (n, own, inr (lane, number, e)) =
+        among_test member u n (has_among u n own) (or_right (w.rooted n) (is_named z (scene_of w) n) (strong_named z w n lane number calm e))
 
 -- what is reached is seen in the scene, and what is seen is reached
 reached_seen : (z : Sizes) (w : World) → IsCalm z w → (u : List Name) → IsReached (graph w) u → is_reached z (scene_of w) u ≡ true
-reached_seen z w calm u h = reached_told z.slots (list_any w.rooted) (graph w) u calm.cells (roots_told z w calm) h
+reached_seen z w calm u h = reached_told z.slots (is_root z (scene_of w)) (graph w) u calm.cells (roots_told z w calm) h
 
 seen_reached : (z : Sizes) (w : World) → IsCalm z w → (u : List Name) → IsUnit (graph w) u → is_reached z (scene_of w) u ≡ true → IsReached (graph w) u
-seen_reached z w calm u unit h = told_reached z.slots (list_any w.rooted) (graph w) u (roots_told z w calm) unit h
+seen_reached z w calm u unit h = told_reached z.slots (is_root z (scene_of w)) (graph w) u (roots_told z w calm) unit h
 
 -- two tests of which each follows from the other
-same_test : (a b : Bool) → (a ≡ true → b ≡ true) → (b ≡ true → a ≡ true) → a ≡ b
+pub same_test : (a b : Bool) → (a ≡ true → b ≡ true) → (b ≡ true → a ≡ true) → a ≡ b
 same_test true b f g = sym (f refl)
 same_test false b f g = sym (false_from_ne_true b (λ e. both_ways false refl (g e)))
 
@@ -115,9 +163,11 @@ committed_scene z m w calm keeps =
           record {
             kinds = w.kinds;
             cell = w.cell;
-            plain = w.plain;
             units = stay i;
             rooted = λ n. w.rooted n && not (has (gone i) n);
+            strong = w.strong;
+            paired = λ n. is_some (pair_of w n);
+            drawn = λ lane. drawn w lane;
             opened = w.opened;
           },
       names_new (members (white_units m w)) ∙ gone,
@@ -222,6 +272,9 @@ pub record HasCollected (z : Sizes) (w : World) (new : World) : Type 0 where
   pub same : (n : Name) → has new.found n ≡ has (unreached z (scene_of w)) n
   pub scene : scene_of new ≡ collected z (scene_of w)
   pub calm : IsCalm z new
+  -- it leaves the plain cells and the pairs
+  pub plain : new.plain ≡ w.plain
+  pub pairs : new.pairs ≡ w.pairs
 
 module _ (z : Sizes) (budget : ℕ) (header : Header) (old piece : List Entry) (before : Legal z old) (calm : IsCalm z (after old)) (table : InTable header (after old))
     (whole : LegalFrom z (state_of old) piece) (h : Collected budget header (state_of old) piece) where
@@ -349,7 +402,9 @@ module _ (z : Sizes) (budget : ℕ) (header : Header) (old piece : List Entry) (
     found = ap (λ (v : World). all_different v.found) ended ∙ has_found.different;
     same = λ n. ap (λ (v : World). has v.found n) ended ∙ found_same n;
     scene = ap scene_of ended ∙ ap scene_of has_found.world ∙ kept_scene.0;
+    plain = ap (λ (v : World). v.plain) ended ∙ ap (λ (v : World). v.plain) has_found.world;
+    pairs = ap (λ (v : World). v.pairs) ended ∙ ap (λ (v : World). v.pairs) has_found.world;
     calm =
         subst (IsCalm z) (sym (ended ∙ ap (λ (v : World). record v { removals = [] }) has_found.world))
-        (record { idle = refl; released = refl; cells = calm.cells; pointers = calm.pointers; fits = calm.fits });
+        (record { idle = refl; released = refl; cells = calm.cells; pointers = calm.pointers; fits = calm.fits; valid = calm.valid; small = calm.small });
   }

@@ -3,7 +3,7 @@ use Rattle.std.proofs.Common.{◌≡◌, ℕ, ◌-◌, zero, suc, length, ◌==�
 use Rattle.std.specs.Prelude.{nat_lt, slice_index, slice_get}
 use Rattle.std.specs.List.{list_any}
 use Rattle.std.proofs.lemmas.Bool.Decides.{nat_tests}
-use Rattle.world_model.specs.NameLists.{same_pass, set_at}
+use Rattle.world_model.specs.NameLists.{same_pass, same_weak, set_at}
 use Rattle.world_model.specs.World.{World, kind_of}
 use Rattle.world_model.specs.State.{State}
 use Rattle.world_model.specs.Next.{run}
@@ -15,16 +15,18 @@ use Rattle.class_schema.specs.Table as table
 use Rattle.class_schema.specs.declared.field.FieldKind.{FieldKind}
 use Rattle.world_play.specs.Header.{Header}
 use Rattle.world_play.specs.Text.{HasText}
-use Rattle.world_play.specs.Types.{Name, Ref, ClassId, Kind, CreateErr, Reply, Pass, Lane, Marker, Collector, Act, Entry, Cmd, LaneCmd, Spot, Field}
+use Rattle.world_play.specs.Types.{Name, Ref, Weak, ClassId, Kind, CreateErr, Reply, Pass, Lane, Marker, Collector, Act, Entry, Cmd, LaneCmd, Spot, Field}
 use Rattle.world_play.specs.Types.act
 use Rattle.world_play.specs.Types.create
 use Rattle.world_play.specs.Types.reply
 use Rattle.world_play.specs.Types.cmd
 use Rattle.world_play.specs.Types.lane_cmd
 use Rattle.world_play.specs.Bindings.{Bindings}
-use Rattle.world_play.specs.Spots.{Kinds, Element, is_int, field_of, kind_at, element_at, spot_at, may_refer, target_at, value_of, set_spot, get_spot, int_spot, told_kind, told_object}
+use Rattle.world_play.specs.Spots.{Kinds, Element, is_int, is_weak, field_of, kind_at, element_at, spot_at, may_refer, target_at, value_of, set_spot, get_spot, int_spot, weak_spot, told_kind, told_object}
 use Rattle.class_schema.specs.Layout.{is_ref}
-use Rattle.world_play.specs.Lanes.{Says, OnObject, OnElement, no_room, Makes, object_of, LaneTurn}
+use Rattle.world_play.specs.Lanes.{Says, OnObject, OnElement, no_room, Makes, GivesPair, ReadsPair, object_of, LaneTurn}
+use Rattle.world_play.specs.Pairs.{no_pair, pair_in, has_serial, stored}
+use Rattle.word_layout.specs.Values.{weak_word}
 use Rattle.world_play.specs.Laws.{LaneClass, HasClass}
 use Rattle.world_play.specs.Plays.{frames_by, fits}
 use Rattle.world_play.specs.Turns.{frames_of, AreMade}
@@ -44,8 +46,8 @@ pub fit_lane : (lane lanes count : ℕ) (b : Bool) → count ≡ lanes → (nat_
 fit_lane lane lanes count b is h = let t : nat_lt lane lanes ≡ true = and_first (nat_lt lane lanes) b h in grind (arith, nat_tests, t, is)
 
 -- a variable of such a lane is there
-pub has_variable : (v : Standing) (lane lanes var : ℕ) (b : Bool) → length v.counts ≡ lanes → (nat_lt lane lanes && b) ≡ true → nat_lt var (slice_index v.counts lane) ≡ true → HasVariable v lane var
-has_variable v lane lanes var b count h t = record { lane_there = fit_lane lane lanes (length v.counts) b count h; var_there = below var (slice_index v.counts lane) t }
+pub has_variable : (v : Standing) (lane lanes var : ℕ) (b : Bool) → length v.counts.lanes ≡ lanes → (nat_lt lane lanes && b) ≡ true → nat_lt var (slice_index v.counts.lanes lane) ≡ true → HasVariable v lane var
+has_variable v lane lanes var b count h t = record { lane_there = fit_lane lane lanes (length v.counts.lanes) b count h; var_there = below var (slice_index v.counts.lanes lane) t }
 
 -- the second of three tests
 pub second : (a b c : Bool) → ((a && b) && c) ≡ true → b ≡ true
@@ -143,10 +145,10 @@ alone : (P : List Entry → Type 0) (lane : ℕ) (a : Act) (piece : List Entry) 
 alone P lane a piece acts one is p = subst P (sym (is ∙ ap (by (Lane lane)) one)) p
 
 -- a store, perhaps after a note
-stored : (s : State) (lane : ℕ) (a : Act) (piece : List Entry) (acts : List Act) → StoreEntries a acts → piece ≡ by (Lane lane) acts
+store_stays : (s : State) (lane : ℕ) (a : Act) (piece : List Entry) (acts : List Act) → StoreEntries a acts → piece ≡ by (Lane lane) acts
     → Stays s (by (Lane lane) (a ∷ [])) → ((of : Name) → Stays s (by (Lane lane) (act.Kept of ∷ a ∷ []))) → Stays s piece
-stored s lane a piece acts (inl one) is first noted = alone (Stays s) lane a piece acts one is first
-stored s lane a piece acts (inr note) is first noted = subst (Stays s) (sym (is ∙ ap (by (Lane lane)) note.1)) (noted note.0)
+store_stays s lane a piece acts (inl one) is first noted = alone (Stays s) lane a piece acts one is first
+store_stays s lane a piece acts (inr note) is first noted = subst (Stays s) (sym (is ∙ ap (by (Lane lane)) note.1)) (noted note.0)
 
 -- no entry
 quiet : (s : State) (piece : List Entry) → piece ≡ [] → Stays s piece
@@ -220,7 +222,20 @@ module _ (header : Header) (s : State) (lane : ℕ) (piece : List Entry) (r : Re
 
   store_answers : (a : Act) (acts : List Act) (told : Reply) → HasText header.classes.classes told → StoreEntries a acts → piece ≡ by (Lane lane) acts
       → r ≡ told → Stays s (by (Lane lane) (a ∷ [])) → ((of : Name) → Stays s (by (Lane lane) (act.Kept of ∷ a ∷ []))) → Answers
-  store_answers a acts told text store is tells stays noted = record { stays = stored s lane a piece acts store is stays noted; told = plain header.classes.classes r told text tells }
+  store_answers a acts told text store is tells stays noted = record { stays = store_stays s lane a piece acts store is stays noted; told = plain header.classes.classes r told text tells }
+
+  -- a weak pointer was given, or refused
+  gives_answers : (o : Option Name) (pair : Weak) → GivesPair s lane o pair piece r → Answers
+  gives_answers None pair h = said (reply.NoObject lane) tt h.0
+  gives_answers (Some n) pair (inl ((acts, call, is), tells)) = one_answers (act.WeakOf n pair) acts (reply.WeakMade lane n) tt call.0 is tells (record { frames = refl; kinds = refl })
+  gives_answers (Some n) pair (inr ((count, (acts, call, is), tells), none)) =
+      one_answers (act.NoSerial n count) acts (reply.SerialsSpent lane count) tt call.0 is tells (record { frames = refl; kinds = refl })
+
+  -- a pair was read, or why not
+  reads_answers : (x : Result Element Reply) (pair : Weak) → TellsNone header.classes.classes lane x → ReadsPair s lane x pair piece r → Answers
+  reads_answers (Err why) pair told h = said why told h.0
+  reads_answers (Ok e) pair told (got, (acts, call, is), tells, same) =
+      one_answers (act.ReadPlain e.at e.slot got) acts (reply.IsWeak lane (has_serial pair)) tt call.0 is tells (record { frames = refl; kinds = refl })
 
   -- a command that leaves the frames and the kinds
   still : (what : LaneCmd) → frames_by (frames_of s.world) (cmd.Lane lane what) ≡ frames_of s.world → AreMade header s.world → Answers → Leaves header s lane what piece r
@@ -319,6 +334,34 @@ lane_leaves header s names new lane (lane_cmd.Take spot) piece r class made h =
     (on_element header s lane piece r (int_spot header s.world.kinds lane (names.objects lane) spot) _
     (spot_tells header.classes.classes lane header s.world.kinds is_int (names.objects lane spot.var) spot)
     (λ e h. one_answers header s lane piece r (act.ReadPlain e.at e.slot h.0) h.1.0 (reply.IsNumber lane h.0) tt h.1.1.0 h.1.2 h.2 (record { frames = refl; kinds = refl })) h.0)
+lane_leaves header s names new lane (lane_cmd.Store spot weak) piece r class made h =
+    still header s lane piece r (lane_cmd.Store spot weak) refl made
+    (on_element header s lane piece r (weak_spot header s.world.kinds lane (names.objects lane) spot) _
+    (spot_tells header.classes.classes lane header s.world.kinds is_weak (names.objects lane spot.var) spot)
+    (λ e h.
+    one_answers header s lane piece r (act.WritePlain e.at e.slot (weak_word (stored no_pair names.weaks weak)) h.0) h.1.0
+    (reply.WasWeak lane (has_serial (pair_in h.0))) tt h.1.1.0 h.1.2 h.2 (record { frames = refl; kinds = refl })) h.0)
+lane_leaves header s names new lane (lane_cmd.Load weak spot) piece r class made (pair, h, same) =
+    still header s lane piece r (lane_cmd.Load weak spot) refl made
+    (reads_answers header s lane piece r (weak_spot header s.world.kinds lane (names.objects lane) spot) pair
+    (spot_tells header.classes.classes lane header s.world.kinds is_weak (names.objects lane spot.var) spot) h)
+lane_leaves header s names new lane (lane_cmd.Hold number to) piece r class made ((old, (acts, call, is), tells), same) =
+    still header s lane piece r (lane_cmd.Hold number to) refl made
+    (store_answers header s lane piece r (act.SetStrong number (value_of (names.objects lane) to) old) acts (reply.Was lane old) tt call.0 is tells
+    (record { frames = refl; kinds = refl }) (λ of. record { frames = refl; kinds = refl }))
+lane_leaves header s names new lane (lane_cmd.Held var number) piece r class made ((got, (acts, call, is), tells), same) =
+    still header s lane piece r (lane_cmd.Held var number) refl made
+    (one_answers header s lane piece r (act.GetStrong number got) acts (reply.Is lane got) tt call.0 is tells (record { frames = refl; kinds = refl }))
+lane_leaves header s names new lane (lane_cmd.Weak weak var) piece r class made (pair, h, same) =
+    still header s lane piece r (lane_cmd.Weak weak var) refl made (gives_answers header s lane piece r (names.objects lane var) pair h)
+lane_leaves header s names new lane (lane_cmd.Resolve var weak) piece r class made ((got, (acts, call, is), tells), same) =
+    still header s lane piece r (lane_cmd.Resolve var weak) refl made
+    (one_answers header s lane piece r (act.Resolve (names.weaks weak) got) acts (reply.Is lane got) tt call.0 is tells (record { frames = refl; kinds = refl }))
+lane_leaves header s names new lane (lane_cmd.Forge weak index) piece r class made h =
+    still header s lane piece r (lane_cmd.Forge weak index) refl made (said header s lane piece r (reply.Forged lane) tt h.0)
+lane_leaves header s names new lane (lane_cmd.Same left right) piece r class made h =
+    still header s lane piece r (lane_cmd.Same left right) refl made
+    (said header s lane piece r (reply.Same lane (same_weak (names.weaks left) (names.weaks right))) tt h.0)
 lane_leaves header s names new lane (lane_cmd.Print var) piece r class made h =
     still header s lane piece r (lane_cmd.Print var) refl made
     (said header s lane piece r (told_object s.world.kinds lane (names.objects lane var))

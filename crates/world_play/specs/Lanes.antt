@@ -4,14 +4,17 @@ use Rattle.world_model.specs.State.{State}
 use Rattle.world_model.specs.Calls.{by, CallOf}
 use Rattle.world_model.specs.Engines.{act_of_refusal}
 use Rattle.class_schema.specs.Table.{kind_of}
-use Rattle.world_play.specs.Types.{Name, Kind, CreateErr, Pass, Lane, Act, Entry, Reply, LaneCmd}
+use Rattle.world_model.specs.NameLists.{same_weak}
+use Rattle.world_play.specs.Types.{Name, Weak, Kind, CreateErr, Pass, Lane, Act, Entry, Reply, LaneCmd}
 use Rattle.world_play.specs.Types.act
 use Rattle.world_play.specs.Types.create
 use Rattle.world_play.specs.Types.reply
 use Rattle.world_play.specs.Types.lane_cmd
 use Rattle.world_play.specs.Header.{Header}
-use Rattle.world_play.specs.Bindings.{Bindings, bound, ended}
-use Rattle.world_play.specs.Spots.{Element, value_of, set_spot, get_spot, int_spot, told_object}
+use Rattle.world_play.specs.Bindings.{Bindings, bound, weak_bound, ended}
+use Rattle.world_play.specs.Pairs.{no_pair, pair_in, has_serial, forged, stored}
+use Rattle.world_play.specs.Spots.{Element, value_of, set_spot, get_spot, int_spot, weak_spot, told_object}
+use Rattle.word_layout.specs.Values.{weak_word}
 
 -- ---- entries and a reply
 
@@ -48,6 +51,19 @@ Makes s lane kind piece r =
     Calls s lane (λ count. act.Make (kind ∷ []) count) (λ count. reply.New lane (record { lane = lane; count = count })) piece r
     ⊎ Calls s lane (λ why. act_of_refusal 1 why) (λ why. no_room lane why) piece r
 
+-- the weak pointer to the object of a variable was given, which is this pair, or refused; where it is refused, and where the variable stands for no object, the pair is the empty one
+abbrev pub GivesPair : State → ℕ → Option Name → Weak → List Entry → Reply → Type 0
+GivesPair s lane None pair piece r = Says (reply.NoObject lane) piece r × (pair ≡ no_pair)
+GivesPair s lane (Some n) pair piece r =
+    (OneCall s (Lane lane) (act.WeakOf n pair) piece × (r ≡ reply.WeakMade lane n))
+    ⊎ (Calls s lane (λ count. act.NoSerial n count) (λ count. reply.SerialsSpent lane count) piece r × (pair ≡ no_pair))
+
+-- the pair in an element was read; where there is no element, the pair is the empty one
+abbrev pub ReadsPair : State → ℕ → Result Element Reply → Weak → List Entry → Reply → Type 0
+ReadsPair s lane (Err why) pair piece r = Says why piece r × (pair ≡ no_pair)
+ReadsPair s lane (Ok e) pair piece r =
+    (got : ℕ) × OneCall s (Lane lane) (act.ReadPlain e.at e.slot got) piece × (r ≡ reply.IsWeak lane (has_serial pair)) × (pair ≡ pair_in got)
+
 -- ---- commands
 
 -- the object that a reply gives
@@ -80,3 +96,19 @@ LaneTurn header s names lane (lane_cmd.Take spot) piece r new =
     (λ e. Calls s lane (λ got. act.ReadPlain e.at e.slot got) (λ got. reply.IsNumber lane got)) piece r × (new ≡ names)
 LaneTurn header s names lane (lane_cmd.Print var) piece r new =
     Says (told_object s.world.kinds lane (names.objects lane var)) piece r × (new ≡ names)
+LaneTurn header s names lane (lane_cmd.Hold h to) piece r new =
+    Calls s lane (λ old. act.SetStrong h (value_of (names.objects lane) to) old) (λ old. reply.Was lane old) piece r × (new ≡ names)
+LaneTurn header s names lane (lane_cmd.Held var h) piece r new =
+    Calls s lane (λ got. act.GetStrong h got) (λ got. reply.Is lane got) piece r × (new ≡ bound names lane var (object_of r))
+LaneTurn header s names lane (lane_cmd.Weak weak var) piece r new =
+    (pair : Weak) × GivesPair s lane (names.objects lane var) pair piece r × (new ≡ weak_bound names weak pair)
+LaneTurn header s names lane (lane_cmd.Resolve var weak) piece r new =
+    Calls s lane (λ got. act.Resolve (names.weaks weak) got) (λ got. reply.Is lane got) piece r × (new ≡ bound names lane var (object_of r))
+LaneTurn header s names lane (lane_cmd.Forge weak index) piece r new = Says (reply.Forged lane) piece r × (new ≡ weak_bound names weak (forged index))
+LaneTurn header s names lane (lane_cmd.Same left right) piece r new =
+    Says (reply.Same lane (same_weak (names.weaks left) (names.weaks right))) piece r × (new ≡ names)
+LaneTurn header s names lane (lane_cmd.Store spot weak) piece r new =
+    OnElement (weak_spot header s.world.kinds lane (names.objects lane) spot)
+    (λ e. Calls s lane (λ old. act.WritePlain e.at e.slot (weak_word (stored no_pair names.weaks weak)) old) (λ old. reply.WasWeak lane (has_serial (pair_in old)))) piece r × (new ≡ names)
+LaneTurn header s names lane (lane_cmd.Load weak spot) piece r new =
+    (pair : Weak) × ReadsPair s lane (weak_spot header s.world.kinds lane (names.objects lane) spot) pair piece r × (new ≡ weak_bound names weak pair)

@@ -1,9 +1,10 @@
 -- Laws of whole scripts.
 use Rattle.std.specs.Prelude.{◌≡◌, ◌<◌, ℕ, List, length}
 use Rattle.std.specs.List.{AllByRecursion}
-use Rattle.world_model.specs.Sizes.{Sizes}
+use Rattle.world_model.specs.Sizes.{Sizes, IsLawful}
 use Rattle.world_model.specs.State.{beginning}
 use Rattle.world_model.specs.Histories.{Legal}
+use Rattle.class_schema.specs.Lawful.{IsSchema}
 use Rattle.level_script.specs.Frames.{IsAtOnce}
 use Rattle.world_play.specs.Header.{Header}
 use Rattle.world_play.specs.Types.{Entry, Reply, Line, Cmd, LaneCmd}
@@ -22,10 +23,11 @@ abbrev pub HasClass : Header → Cmd → Type 0
 HasClass header (cmd.Lane lane what) = LaneClass header what
 HasClass header (cmd.Gc what) = Unit {0}
 
--- However a legal history plays a whole script, whose classes are ready as soon as they are asked, the text of its replies is the outcome of the script.
+-- However a legal history of a shape plays a whole script, whose classes are those of a table and are ready as soon as they are asked, the text of its replies is the outcome of the script.
 abbrev pub OneText : Type 0
 OneText = (z : Sizes) (budget : ℕ) (header : Header) (lines : List Line) (pieces : List (List Entry)) (replies : List Reply) (last : Bindings)
-    → 0 < length header.classes.classes
+    → IsLawful z
+    → IsSchema header.classes
     → AllByRecursion IsAtOnce header.classes.classes
     → AllByRecursion (λ l. HasClass header l.cmd) lines
     → Legal z (entries_of pieces)

@@ -2,7 +2,9 @@ pub mod Types
 pub mod Header
 pub mod Text
 pub mod Spots
+pub mod Pairs
 pub mod Bindings
+pub mod Values
 pub mod Lanes
 pub mod Collections
 pub mod Plays

@@ -34,6 +34,12 @@ is_int (field.Ref class) = false
 is_int field.Weak = false
 is_int field.Int = true
 
+-- the elements are weak pointers
+abbrev pub is_weak : FieldKind → Bool
+is_weak (field.Ref class) = false
+is_weak field.Weak = true
+is_weak field.Int = false
+
 -- the slot of an element: references go upwards, and all else downwards
 abbrev pub slot_at : Field → ℕ → ℕ
 slot_at f element = if is_ref f.kind then f.first + element else f.first - element
@@ -73,7 +79,7 @@ target_at h kinds lane to (Ok e) = if may_refer h kinds e.kind to then Ok e else
 abbrev pub Own : Type 0
 Own = ℕ → Option Name
 
--- the object of the value of `set`: none for a variable that stands for none
+-- the object of the value of `set` and `hold`: none for a variable that stands for none
 abbrev pub value_of : Own → Option ℕ → Option Name
 value_of names to = option_and_then names to
 
@@ -85,6 +91,9 @@ get_spot h kinds lane names spot = spot_at h kinds lane is_ref (names spot.var) 
 
 abbrev pub int_spot : Header → Kinds → ℕ → Own → Spot → Result Element Reply
 int_spot h kinds lane names spot = spot_at h kinds lane is_int (names spot.var) spot
+
+abbrev pub weak_spot : Header → Kinds → ℕ → Own → Spot → Result Element Reply
+weak_spot h kinds lane names spot = spot_at h kinds lane is_weak (names spot.var) spot
 
 -- ---- what is told of an object
 

@@ -1,5 +1,5 @@
 -- The order of names, and the text of a reply.
-use Rattle.std.specs.Prelude.{ℕ, ◌<◌, length, Option, Some, None, List, [], ◌∷◌, ◌++◌, codes, decimal, flat_map, if◌then◌else◌}
+use Rattle.std.specs.Prelude.{ℕ, ◌<◌, Bool, length, Option, Some, None, List, [], ◌∷◌, ◌++◌, codes, decimal, flat_map, if◌then◌else◌}
 use Rattle.std.specs.Ordering.{nat_cmp, on, then_cmp, is_lt}
 use Rattle.std.specs.declared.cmp.Ordering.{Ordering}
 use Rattle.class_schema.specs.Class.{Class}
@@ -43,6 +43,10 @@ abbrev pub object_text : Option Name → List ℕ
 object_text None = codes "none"
 object_text (Some n) = decimal n.lane ++ (codes ":" ++ decimal n.count)
 
+-- whether there is a weak pointer, as it is told
+abbrev pub weak_text : Bool → List ℕ
+weak_text there = if there then codes "weak" else codes "none"
+
 -- a reply that tells a class tells one of these
 abbrev pub HasText : List Class → Reply → Type 0
 HasText classes (reply.Object lane n class) = class.0 < length classes
@@ -60,6 +64,12 @@ text_of classes (reply.Was lane old) = decimal lane ++ (codes " was " ++ (object
 text_of classes (reply.WasNumber lane old) = decimal lane ++ (codes " was " ++ (decimal old ++ codes "\n"))
 text_of classes (reply.Is lane got) = decimal lane ++ (codes " is " ++ (object_text got ++ codes "\n"))
 text_of classes (reply.IsNumber lane got) = decimal lane ++ (codes " is " ++ (decimal got ++ codes "\n"))
+text_of classes (reply.WasWeak lane was) = decimal lane ++ (codes " was " ++ (weak_text was ++ codes "\n"))
+text_of classes (reply.IsWeak lane is) = decimal lane ++ (codes " is " ++ (weak_text is ++ codes "\n"))
+text_of classes (reply.WeakMade lane n) = decimal lane ++ (codes " weak " ++ (object_text (Some n) ++ codes "\n"))
+text_of classes (reply.SerialsSpent lane made) = decimal lane ++ (codes " serials spent " ++ (decimal made ++ codes "\n"))
+text_of classes (reply.Forged lane) = decimal lane ++ codes " forged\n"
+text_of classes (reply.Same lane same) = decimal lane ++ (codes " same " ++ ((if same then codes "yes" else codes "no") ++ codes "\n"))
 text_of classes (reply.Object lane n class) = decimal lane ++ (codes " object " ++ (decimal n.lane ++ (codes ":" ++ (decimal n.count ++ (codes " " ++ ((class_at classes class).name ++ codes "\n"))))))
 text_of classes (reply.NoObject lane) = decimal lane ++ codes " none\n"
 text_of classes (reply.NoField lane) = decimal lane ++ codes " no field\n"

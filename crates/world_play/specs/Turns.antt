@@ -7,6 +7,7 @@ use Rattle.class_schema.specs.Lawful.{IsSchema}
 use Rattle.world_model.specs.State.{State, beginning}
 use Rattle.world_model.specs.Histories.{state_of, after, Legal}
 use Rattle.world_model.specs.Engines.{Holdings}
+use Rattle.level_script.specs.Frames.{fits_script}
 use Rattle.world_play.specs.Header.{Header}
 use Rattle.world_play.specs.Types.{Name, Kind, Entry, Line, Cmd, LaneCmd, Reply, Lane}
 use Rattle.world_play.specs.Bindings.{Bindings, no_bindings}
@@ -25,10 +26,11 @@ pub record AreMade (header : Header) (w : World) : Type 0 where
   pub class : (n : Name) (k : Kind) → kind_of w n ≡ Some k → k.class.0 < length header.classes.classes
   pub kind : (n : Name) (k : Kind) → kind_of w n ≡ Some k → k ≡ table.kind_of header.classes k.class
 
--- A command can be played: its lane, its variables and its class are there, and its lane's frame is as it needs it.
+-- A command can be played: its lane, its variables, its class and its strong pointer are there, and its lane's frame is as it needs it.
 pub record IsReady (z : Sizes) (history : List Entry) (holds : Holdings) (variables : Standing) (header : Header) (what : Cmd) : Type 0 where
-  pub fit : fits z.lanes variables.counts header (frames_of (after history)) what ≡ true
-  pub count : length variables.counts ≡ z.lanes
+  pub fit : fits z.lanes variables.counts.lanes header (frames_of (after history)) what ≡ true
+  pub beside : fits_script variables.counts.weaks z.strong what ≡ true
+  pub count : length variables.counts.lanes ≡ z.lanes
   pub held : AreHeld holds variables
   pub slots : header.classes.slots ≡ z.slots
   pub schema : IsSchema header.classes

@@ -8,8 +8,9 @@ ghost use Rattle.world_play.specs.Lanes.{no_room};
 ghost use Rattle.world_play.specs.Turns.{IsReady, LaneDid};
 ghost use Rattle.world_play.specs.Variables.{standing, shown, HasVariable, AreHeld};
 
-use crate::cells::{get, put, set, take};
+use crate::cells::{get, load, put, set, store, take};
 use crate::header::Header;
+use crate::pointers::{forged, held, hold, resolve, same_weak, weak};
 use crate::reply::Reply;
 use crate::variables::Variables;
 use level_script::LaneCmd;
@@ -124,6 +125,22 @@ pub(crate) fn lane_turn<S: Shape, E: Engine<S>>(
         LaneCmd::Get { var, spot } => get::<S, E>(engine, header, variables, lane, *var, *spot),
         LaneCmd::Put { spot, value } => put::<S, E>(engine, header, variables, lane, *spot, *value),
         LaneCmd::Take { spot } => take::<S, E>(engine, header, variables, lane, *spot),
+        LaneCmd::Store { spot, weak } => store::<S, E>(
+            engine, header, variables, lane, *spot, *weak,
+        ),
+        LaneCmd::Load { weak, spot } => load::<S, E>(engine, header, variables, lane, *weak, *spot),
+        LaneCmd::Hold { h, to } => hold::<S, E>(engine, variables, lane, *h, *to),
+        LaneCmd::Held { var, h } => held::<S, E>(engine, variables, lane, *var, *h),
+        LaneCmd::Weak { weak: to, var } => weak::<S, E>(engine, variables, lane, *to, *var),
+        LaneCmd::Resolve { var, weak } => { resolve::<S, E>(engine, variables, lane, *var, *weak) }
+        LaneCmd::Forge { weak, index } => {
+            variables.bind_weak(*weak, forged(*index));
+            Reply::Forged(lane)
+        }
+        LaneCmd::Same { left, right } => {
+            let same = same_weak(variables.weak(*left), variables.weak(*right));
+            Reply::Same(lane, same)
+        }
         LaneCmd::Print { var } => print::<S, E>(engine, variables, lane, *var),
     }
 }

@@ -16,6 +16,7 @@ mod hooks;
 mod lane;
 mod laws;
 mod player;
+mod pointers;
 mod reply;
 mod run;
 mod status;

@@ -1,6 +1,7 @@
 //! Whole scripts.
 ghost use Rattle.std.specs.Prelude.{◌≡◌, ◌≤◌, true, false, [], length, replicate, OnOk, OnErr};
-ghost use Rattle.level_script.specs.Frames.{are_framed};
+ghost use Rattle.level_script.specs.Frames.{are_framed, fits_script};
+ghost use Rattle.std.specs.List.{list_all};
 ghost use Rattle.world_play.specs.Streams.{PutCounts};
 ghost use Rattle.world_play.specs.Turns.{IsReady, Answered, Unanswered, Played, Stopped};
 ghost use Rattle.world_play.specs.Variables.{standing, shown};
@@ -45,7 +46,8 @@ fn play_line<S: Shape, E: Engine<S>, K: Sink>(
     put_all(out, text.as_bytes())
 }
 
-/// Plays the lines in order with slices of so many objects, items or steps, and puts the text of
+/// Plays the lines in order with slices of so many objects, items or steps, where each lane has so
+/// many variables and the script has so many weak ones, and puts the text of
 /// each reply when its line is done. `written` counts the lines that were put whole.
 pub fn play<S: Shape, E: Engine<S>, K: Sink>(
     alloc: Global,
@@ -53,6 +55,7 @@ pub fn play<S: Shape, E: Engine<S>, K: Sink>(
     header: &Header<'_>,
     lines: &[Line],
     counts: &[u32],
+    weaks: u32,
     budget: u32,
     out: &mut K,
     written: &mut u64,
@@ -60,6 +63,7 @@ pub fn play<S: Shape, E: Engine<S>, K: Sink>(
     requires some { 1 ≤ budget }
     requires lanes { length counts.now ≡ S.sizes.lanes }
     requires framed { are_framed counts.now (length header.now.classes.classes) (length header.now.fields) (replicate S.sizes.lanes false) lines.now ≡ true }
+    requires beside { list_all (λ line. fits_script weaks S.sizes.strong line.cmd) lines.now ≡ true }
     requires slots { header.now.classes.slots ≡ S.sizes.slots }
     requires schema { IsSchema header.now.classes }
     requires start { E.history engine.old ≡ [] }
@@ -69,7 +73,7 @@ pub fn play<S: Shape, E: Engine<S>, K: Sink>(
     ensures written { OnOk result (written.new ≡ length lines.now) }
     ensures stopped { OnErr result (Stopped S.sizes budget header.now lines.now (E.history engine.new) (K.held out.old) (K.held out.new) written.new) }
 {
-    let Ok(mut variables) = Variables::new(alloc, counts) else {
+    let Ok(mut variables) = Variables::new(alloc, counts, weaks) else {
         return Err(PutErr::Memory);
     };
     let mut text = String::new(alloc);

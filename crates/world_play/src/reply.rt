@@ -17,14 +17,26 @@ pub enum Reply {
     NamesSpent(u32, u64),
     /// Whether the object was in the root set.
     WasRoot(u32, bool),
-    /// What the reference cell referred to before.
+    /// What the reference cell or the strong pointer named before.
     Was(u32, Option<Name>),
     /// The number that stood in the cell before.
     WasNumber(u32, u64),
-    /// What the reference cell refers to.
+    /// What the reference cell, the strong pointer or the weak pointer gives.
     Is(u32, Option<Name>),
     /// The number in the cell.
     IsNumber(u32, u64),
+    /// Whether a weak pointer stood in the cell before.
+    WasWeak(u32, bool),
+    /// Whether a weak pointer is in the cell.
+    IsWeak(u32, bool),
+    /// The object to which the weak pointer was given.
+    WeakMade(u32, Name),
+    /// No weak pointer was given, since the lane has drawn all its serials, which are so many.
+    SerialsSpent(u32, u32),
+    /// A pair was forged.
+    Forged(u32),
+    /// Whether two pairs have the same index and the same serial.
+    Same(u32, bool),
     /// An object and its class.
     Object(u32, Name, ClassId),
     /// The variable stands for no object.

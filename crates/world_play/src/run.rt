@@ -144,6 +144,7 @@ fn perform<S: Shape, E: Engine<S>, K: Sink>(
         &header,
         script.lines.as_slice(),
         script.vars.as_slice(),
+        script.weaks,
         slice,
         out,
         &mut lines,
@@ -218,7 +219,10 @@ fn play_words<S: Source, K: Sink>(alloc: Global, words: Words, script: &mut S, o
     ensures lines { CountsLines (K.held out.old) (K.held out.new) result.lines }
 {
     match read_script(alloc, script, limits_in(words.shape)) {
-        Ok(script) => perform_in(alloc, &script, words, out),
+        Ok(script) => {
+            script.classes.lawful();
+            perform_in(alloc, &script, words, out)
+        }
         Err(status) => without_run(status),
     }
 }

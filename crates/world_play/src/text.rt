@@ -2,7 +2,7 @@
 ghost use Rattle.std.specs.Prelude.{◌≡◌, ◌++◌, OnOk, string_bytes};
 ghost use Rattle.std.specs.Prelude.{codes, decimal, flat_map, length, ◌<◌, if◌then◌else◌};
 ghost use Rattle.world_play.specs.Types.reply;
-ghost use Rattle.world_play.specs.Text.{text_of, HasText, phase_text, object_text, name_text, names_text, full_text};
+ghost use Rattle.world_play.specs.Text.{text_of, HasText, phase_text, object_text, weak_text, name_text, names_text, full_text};
 
 use crate::reply::Reply;
 use level_script::ClassTable;
@@ -53,6 +53,13 @@ fn push_names_spent(text: &mut String, lane: u32, left: u64) -> Result<(), Alloc
     ensures { OnOk result (string_bytes text.new ≡ string_bytes text.old ++ decimal lane ++ (codes " names spent " ++ (decimal left ++ codes "\n"))) }
 {
     write!(text, "{lane} names spent {left}\n")
+}
+
+/// How many serials a lane has drawn, all that it has.
+fn push_serials_spent(text: &mut String, lane: u32, made: u32) -> Result<(), AllocError>
+    ensures { OnOk result (string_bytes text.new ≡ string_bytes text.old ++ (decimal lane ++ (codes " serials spent " ++ (decimal made ++ codes "\n")))) }
+{
+    write!(text, "{lane} serials spent {made}\n")
 }
 
 fn push_was_root(text: &mut String, lane: u32, was: bool) -> Result<(), AllocError>
@@ -112,6 +119,22 @@ fn push_told(
     text.push_str("\n")
 }
 
+/// Whether there is a weak pointer, behind words.
+fn push_weak(text: &mut String, lane: u32, words: &str, there: bool) -> Result<(), AllocError>
+    ensures { OnOk result (string_bytes text.new ≡ string_bytes text.old ++ decimal lane ++ (words.now ++ (weak_text there ++ codes "\n"))) }
+{
+    let word = if there { "weak" } else { "none" };
+    write!(text, "{lane}{words}{word}\n")
+}
+
+/// Whether two pairs are the same.
+fn push_same(text: &mut String, lane: u32, same: bool) -> Result<(), AllocError>
+    ensures { OnOk result (string_bytes text.new ≡ string_bytes text.old ++ decimal lane ++ (codes " same " ++ ((if same then codes "yes" else codes "no") ++ codes "\n"))) }
+{
+    let word = if same { "yes" } else { "no" };
+    write!(text, "{lane} same {word}\n")
+}
+
 fn push_class(
     text: &mut String,
     classes: &ClassTable,
@@ -128,7 +151,7 @@ fn push_class(
 
 // Words behind a lane.
 fn push_worded(text: &mut String, lane: u32, words: &str) -> Result<(), AllocError>
-    ensures { OnOk result (string_bytes text.new ≡ string_bytes text.old ++ decimal lane ++ words.now) }
+    ensures { OnOk result (string_bytes text.new ≡ string_bytes text.old ++ (decimal lane ++ words.now)) }
 {
     write!(text, "{lane}{words}")
 }
@@ -153,6 +176,12 @@ pub(crate) fn push_line(
         Reply::WasNumber(lane, old) => write!(text, "{lane} was {old}\n"),
         Reply::Is(lane, got) => push_told(text, *lane, " is ", *got),
         Reply::IsNumber(lane, got) => write!(text, "{lane} is {got}\n"),
+        Reply::WasWeak(lane, was) => push_weak(text, *lane, " was ", *was),
+        Reply::IsWeak(lane, is) => push_weak(text, *lane, " is ", *is),
+        Reply::WeakMade(lane, name) => push_told(text, *lane, " weak ", Some(*name)),
+        Reply::SerialsSpent(lane, made) => push_serials_spent(text, *lane, *made),
+        Reply::Forged(lane) => push_worded(text, *lane, " forged\n"),
+        Reply::Same(lane, same) => push_same(text, *lane, *same),
         Reply::Object(lane, name, class) => push_class(text, classes, *lane, *name, *class),
         Reply::NoObject(lane) => push_worded(text, *lane, " none\n"),
         Reply::NoField(lane) => push_worded(text, *lane, " no field\n"),

@@ -9,9 +9,9 @@ use Rattle.world_play.specs.Text.{text_of}
 use Rattle.world_play.specs.Streams.{Gained}
 use Rattle.world_play.specs.Bindings.{no_bindings}
 use Rattle.world_play.specs.Plays.{TurnBy, Plays, text}
-use Rattle.world_play.specs.Variables.{Standing, standing, shown, AreHeld}
+use Rattle.world_play.specs.Variables.{Numbers, Standing, standing, shown, AreHeld}
 use Rattle.world_play.proofs.Keeping.{unbound_held}
-use Rattle.world_play.proofs.Playing.{plays_none, plays_more, text_more, entries_more, fit_at, framed_fit, all_closed, stopped_first, stopped_at}
+use Rattle.world_play.proofs.Playing.{plays_none, plays_more, text_more, entries_more, fit_at, beside_at, framed_fit, all_closed, stopped_first, stopped_at}
 use Rattle.world_play.proofs.Streams.{gained_none, gained_both, err_holds}
 use Rattle.world_play.proofs.player.play.Goals as goal
 
@@ -28,8 +28,9 @@ loop-line-init g c = rw c.requires.start (record {
   cut = refl;
   put = gained_none _;
   fit = framed_fit c.args.counts.now c.args.header.now _ _ _ c.args.lines.now (length-replicate _ false) (all_closed _) c.requires.framed;
-  counts = ap (λ (v : Standing). v.counts) c.in-Ok.ensures;
-  held = subst (AreHeld (g.E.Engine.holds c.args.engine.now)) (sym c.in-Ok.ensures) (unbound_held _ c.args.counts.now);
+  counts = ap (λ (v : Standing). v.counts.lanes) c.in-Ok.ensures;
+  weaks = ap (λ (v : Standing). v.counts.weaks) c.in-Ok.ensures;
+  held = subst (AreHeld (g.E.Engine.holds c.args.engine.now)) (sym c.in-Ok.ensures) (unbound_held _ c.args.counts.now c.args.weaks);
   faults = refl;
   made = record { class = λ n k e. absurd cc; kind = λ n k e. absurd cc };
   written = c.requires.none;
@@ -41,6 +42,7 @@ play_line-requires-clause-ready g c =
     let fit = fit_at _ c.args.counts.now c.args.header.now _ c.args.lines.now c.loop-line.line-index (record { number = 0; cmd = cmd.Lane 0 lane_cmd.Open }) c.loop-line-test.true i.fit in
     record {
       fit = rw i.counts fit.0;
+      beside = rw i.weaks (beside_at c.args.weaks _ c.args.lines.now c.loop-line.line-index (record { number = 0; cmd = cmd.Lane 0 lane_cmd.Open }) c.loop-line-test.true c.requires.beside);
       count = ap length i.counts ∙ c.requires.lanes;
       held = i.held;
       slots = c.requires.slots;
@@ -77,7 +79,8 @@ loop-line-preserved g c =
       put = subst (Gained (g.K.Sink.held c.args.out.now) (g.K.Sink.held c.play_line.new.out)) (sym (text_more c.args.header.now.classes.classes i.replies a.reply))
           (gained_both _ _ _ (text c.args.header.now.classes.classes i.replies) (text_of c.args.header.now.classes.classes a.reply) i.put a.put);
       fit = rw t.frames fit.1;
-      counts = t.counts ∙ i.counts;
+      counts = ap (λ (n : Numbers). n.lanes) t.counts ∙ i.counts;
+      weaks = ap (λ (n : Numbers). n.weaks) t.counts ∙ i.weaks;
       held = t.held;
       faults = c.in_ok-play_line.ensures.faults ∙ i.faults;
       made = t.made;

@@ -19,7 +19,8 @@ invariant-loop-line g l =
       cut : history l.engine ≡ entries_of pieces;
       put : Gained (g.K.Sink.held l.fn.out) (g.K.Sink.held l.out) (text l.header.classes.classes replies);
       fit : are_fit g.S.Shape.sizes.lanes l.counts l.header (frames_of (after (history l.engine))) (drop l.line-index l.lines) ≡ true;
-      counts : (standing l.variables).counts ≡ l.counts;
+      counts : (standing l.variables).counts.lanes ≡ l.counts;
+      weaks : (standing l.variables).counts.weaks ≡ l.weaks;
       held : AreHeld (g.E.Engine.holds l.engine) (standing l.variables);
       faults : g.K.Sink.faults l.out ≡ g.K.Sink.faults l.fn.out;
       made : AreMade l.header (after (history l.engine));

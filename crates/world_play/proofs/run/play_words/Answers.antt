@@ -17,7 +17,7 @@ returns-in-Ok-clause-headline g c =
 
 pub returns-in-Ok-clause-outcome : goal.returns-in-Ok-clause-outcome
 returns-in-Ok-clause-outcome g c =
-    outcome_of_run one_text_holds c.args.words c.perform_in.result.status _ c.in-Ok.script c.perform_in.result.run _ _ _
+    outcome_of_run one_text_holds c.args.words c.perform_in.result.status _ c.in-Ok.script c.perform_in.result.run _ _ _ c.lawful.ensures
     (subst (λ (limits : Limits). IsPlayable limits c.in-Ok.script) c.limits_in.ensures.limits c.in-Ok.ensures.playable)
     (subst (λ (limits : Limits). IsScript limits (g.S.Source.left c.args.script.now) c.in-Ok.script) c.limits_in.ensures.limits c.in-Ok.ensures.read)
     c.perform_in.ensures.run c.perform_in.ensures.played

@@ -12,4 +12,5 @@ returns c =
     let inside = lane_inside lanes lane c.requires.lane_there in
     let at = slice_get_read lanes (length lanes) lane l refl inside c.index_mut.ensures.value in
     let var = var_inside lanes lane c.args.var l at c.requires.var_there in
-    bind_standing lanes lane c.args.var l c.bind.new.self c.args.to at inside c.bind.ensures.frame c.bind.ensures.slots (ap length c.bind.ensures.slots ∙ length-set _ _ _) var
+    bind_standing lanes c.args.self.now.weaks.items lane c.args.var l c.bind.new.self c.args.to at inside c.bind.ensures.frame c.bind.ensures.slots
+    (ap length c.bind.ensures.slots ∙ length-set _ _ _) var

@@ -10,4 +10,4 @@ returns c =
     let l = c.index_mut.result.now in
     let inside = lane_inside lanes lane c.requires in
     let at = slice_get_read lanes (length lanes) lane l refl inside c.index_mut.ensures.value in
-    end_standing lanes lane l c.end.new.self at inside c.end.ensures.count c.end.ensures.none
+    end_standing lanes c.args.self.now.weaks.items lane l c.end.new.self at inside c.end.ensures.count c.end.ensures.none
