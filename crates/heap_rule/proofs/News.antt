@@ -70,20 +70,28 @@ range_has i (suc n) j low high = go (eqb j i) refl (λ far. range_has (suc i) n 
 
 none_before : (i n j : ℕ) → j < i → count_by (λ k. eqb j k) (items_from i n) ≡ 0
 none_before i zero j low = refl
-none_before i (suc n) j low = let off : eqb j i ≡ false = ne_eqb j i (λ same. absurd (omega (arith, same, low))) in let tail = none_before (suc i) n j (omega arith) in let step = count-cons (λ k. eqb j k) i (items_from (suc i) n) in let here : cond {A = ℕ} (eqb j i) 1 0 ≡ 0 = rw off refl in omega (arith, tail, step, here)
+none_before i (suc n) j low =
+    let off : eqb j i ≡ false = ne_eqb j i (λ same. absurd (omega (arith, same, low))) in
+    let tail = none_before (suc i) n j (omega arith) in
+    let step = count-cons (λ k. eqb j k) i (items_from (suc i) n) in let here : cond {A = ℕ} (eqb j i) 1 0 ≡ 0 = rw off refl in omega (arith, tail, step, here)
 
 range_once : (i n j : ℕ) → count_by (λ k. eqb j k) (items_from i n) ≤ 1
 range_once i zero j = omega arith
 range_once i (suc n) j = go (eqb j i) refl (range_once (suc i) n j) (λ low. none_before (suc i) n j low)
   where
-    go : (b : Bool) → eqb j i ≡ b → count_by (λ k. eqb j k) (items_from (suc i) n) ≤ 1 → (j < suc i → count_by (λ k. eqb j k) (items_from (suc i) n) ≡ 0) → count_by (λ k. eqb j k) (i ∷ items_from (suc i) n) ≤ 1
-    go true e tail none = let same : j ≡ i = eqb-true j i e in let zero_more = none (omega arith) in let step = count-cons (λ k. eqb j k) i (items_from (suc i) n) in let one : cond {A = ℕ} (eqb j i) 1 0 ≡ 1 = rw e refl in omega (arith, zero_more, step, one)
+    go : (b : Bool) → eqb j i ≡ b → count_by (λ k. eqb j k) (items_from (suc i) n) ≤ 1 → (j < suc i → count_by (λ k. eqb j k) (items_from (suc i) n) ≡ 0)
+        → count_by (λ k. eqb j k) (i ∷ items_from (suc i) n) ≤ 1
+    go true e tail none =
+        let same : j ≡ i = eqb-true j i e in
+        let zero_more = none (omega arith) in
+        let step = count-cons (λ k. eqb j k) i (items_from (suc i) n) in let one : cond {A = ℕ} (eqb j i) 1 0 ≡ 1 = rw e refl in omega (arith, zero_more, step, one)
     go false e tail none = let step = count-cons (λ k. eqb j k) i (items_from (suc i) n) in let none_here : cond {A = ℕ} (eqb j i) 1 0 ≡ 0 = rw e refl in omega (arith, step, none_here, tail)
 
 range_linked : (next : ℕ → ℕ) (i n : ℕ) → ((j : ℕ) → i ≤ j → suc j < i + n → next j ≡ suc (suc j)) → ((j : ℕ) → i ≤ j → suc j ≡ i + n → next j ≡ 0) → Linked next 0 (items_from i n)
 range_linked next i zero on end = tt
 range_linked next i (suc zero) on end = end i (omega arith) (omega arith)
-range_linked next i (suc (suc n)) on end = (on i (omega arith) (omega arith), range_linked next (suc i) (suc n) (λ j low high. on j (omega arith) (omega arith)) (λ j low high. end j (omega arith) (omega arith)))
+range_linked next i (suc (suc n)) on end =
+    (on i (omega arith) (omega arith), range_linked next (suc i) (suc n) (λ j low high. on j (omega arith) (omega arith)) (λ j low high. end j (omega arith) (omega arith)))
 
 no_lane : (m l : ℕ) → has_pass (Collector ∷ ([] ++ markers_below m)) (Lane l) ≡ true → ⊥
 no_lane zero l h = absurd cc
@@ -115,7 +123,16 @@ module _ (z : Sizes) (limits : IsLawful z) where
   seen_whole zero l low = absurd (omega arith)
   seen_whole (suc n) l low = go (eqb l n) refl (λ less. seen_whole n l less)
     where
-      go : (b : Bool) → eqb l n ≡ b → (l < n → LaneSeen None false (lane_items z l) [] None None (lane_in (lanes_whole z n) l)) → LaneSeen None false (lane_items z l) [] None None (cond b (record { lane = n; hand = None; owes = false; free = lane_items z n; making = []; prepared = None; loose = None }) (lane_in (lanes_whole z n) l))
+      go : (b : Bool) → eqb l n ≡ b → (l < n → LaneSeen None false (lane_items z l) [] None None (lane_in (lanes_whole z n) l))
+          → LaneSeen None false (lane_items z l) [] None None (cond b (record {
+            lane = n;
+            hand = None;
+            owes = false;
+            free = lane_items z n;
+            making = [];
+            prepared = None;
+            loose = None;
+          }) (lane_in (lanes_whole z n) l))
       go true e tail = let same : l ≡ n = eqb-true l n e in record { hand_is = refl; owes_is = refl; free_is = ap (lane_items z) (sym same); making_is = refl; prepared_is = refl; loose_is = refl }
       go false e tail = tail (let off : l ≢ n = λ same. let wrong : false ≡ true = sym e ∙ eq-eqb l n same in absurd cc in omega (arith, off))
 
@@ -125,14 +142,24 @@ module _ (z : Sizes) (limits : IsLawful z) where
       (λ j low last. end j (lane_part l j low (omega arith)) last)
     where
       on : (j : ℕ) → j / z.quota ≡ l → suc j < l * z.quota + z.quota → first_memory z (part.Next j) ≡ suc (suc j)
-      on j of high = let off : eqb (suc j) ((j / z.quota + 1) * z.quota) ≡ false = ne_eqb (suc j) ((j / z.quota + 1) * z.quota) (λ same. let again : (j / z.quota + 1) * z.quota ≡ (l + 1) * z.quota = ap (λ (n : ℕ). (n + 1) * z.quota) of in absurd (omega (arith, same, again, high))) in rw off (omega arith)
+      on j of high =
+          let off : eqb (suc j) ((j / z.quota + 1) * z.quota) ≡ false = ne_eqb (suc j) ((j / z.quota + 1) * z.quota)
+          (λ same. let again : (j / z.quota + 1) * z.quota ≡ (l + 1) * z.quota = ap (λ (n : ℕ). (n + 1) * z.quota) of in absurd (omega (arith, same, again, high))) in
+          rw off (omega arith)
 
       end : (j : ℕ) → j / z.quota ≡ l → suc j ≡ l * z.quota + z.quota → first_memory z (part.Next j) ≡ 0
-      end j of last = let on : eqb (suc j) ((j / z.quota + 1) * z.quota) ≡ true = eq-eqb (suc j) ((j / z.quota + 1) * z.quota) (let again : (j / z.quota + 1) * z.quota ≡ (l + 1) * z.quota = ap (λ (n : ℕ). (n + 1) * z.quota) of in omega (arith, again, last)) in rw on refl
+      end j of last =
+          let on : eqb (suc j) ((j / z.quota + 1) * z.quota) ≡ true = eq-eqb (suc j) ((j / z.quota + 1) * z.quota)
+          (let again : (j / z.quota + 1) * z.quota ≡ (l + 1) * z.quota = ap (λ (n : ℕ). (n + 1) * z.quota) of in omega (arith, again, last)) in
+          rw on refl
 
   frees_listed : (l : ℕ) → l < z.lanes → Lists z (λ i. Free (i / z.quota)) (Free l) (lane_items z l)
   frees_listed l low = record {
-    all = λ i inside is. let of : i / z.quota ≡ l = ap lane_of is in let b = part_bounds i in let b0 = b.0 in let b1 = b.1 in let again : i / z.quota * z.quota ≡ l * z.quota = ap (λ (n : ℕ). n * z.quota) of in range_has (l * z.quota) z.quota i (omega (arith, b0, again)) (omega (arith, b1, again));
+    all =
+        λ i inside is. let of : i / z.quota ≡ l = ap lane_of is in
+        let b = part_bounds i in
+        let b0 = b.0 in
+        let b1 = b.1 in let again : i / z.quota * z.quota ≡ l * z.quota = ap (λ (n : ℕ). n * z.quota) of in range_has (l * z.quota) z.quota i (omega (arith, b0, again)) (omega (arith, b1, again));
     each = λ i is. let r = in_range (l * z.quota) z.quota i is in (part_inside l i low r.1, ap Free (lane_part l i r.0 r.1));
     once = λ i. range_once (l * z.quota) z.quota i;
   }
@@ -178,9 +205,22 @@ begins_kept z words limits shows = record {
   strongs = λ l h low few. refl;
   pairs = record { here = λ n h. absurd cc; left = λ n h. absurd cc; indexes = λ n w either is. absurd cc };
   items = record { living_stand = λ n h. absurd cc; removed_stand = λ n h. absurd cc; only = λ i n low is. absurd cc; home = λ i low. refl };
-  blank = record { heads = λ i low h. refl; owners = λ i low h. refl; taken = λ i l low is. absurd cc; names = λ i low h. refl; kinds = λ i low h. refl; serials = λ i low h. refl; cells = λ i slot low h few. refl };
+  blank =
+      record {
+        heads = λ i low h. refl;
+        owners = λ i low h. refl;
+        taken = λ i l low is. absurd cc;
+        names = λ i low h. refl;
+        kinds = λ i low h. refl;
+        serials = λ i low h. refl;
+        cells = λ i slot low h few. refl;
+      };
   chains = record {
-    frees = λ l low. record { stock_is = ap (λ (n : ℕ). stock_word (record { first = first_item (lane_items z l); count = n })) (sym (items_length (l * z.quota) z.quota)); linked = frees_linked z limits l };
+    frees =
+        λ l low. record {
+          stock_is = ap (λ (n : ℕ). stock_word (record { first = first_item (lane_items z l); count = n })) (sym (items_length (l * z.quota) z.quota));
+          linked = frees_linked z limits l;
+        };
     backs = λ l low. record { stock_is = refl; linked = tt };
     free_items = λ l low. frees_listed z limits l low;
     back_items = λ l low. record { all = λ i inside is. absurd cc; each = λ i is. absurd cc; once = λ i. omega arith };
@@ -203,7 +243,19 @@ begins_kept z words limits shows = record {
   refs = first_seat _ (whole z) tt;
   lanes = first_seat _ (whole z) (λ l own. seen_whole z limits z.lanes l (lane_below z limits z.lanes z.markers l own));
   markers = first_seat _ (whole z) (λ m own. record { stack_is = λ u. refl; scan_is = refl; first_is = tt; owes_is = refl; zeros_are = λ op. absurd cc });
-  collector = first_seat _ (whole z) (λ own. record { job_is = refl; hand_is = refl; found_is = λ u. refl; clean_is = λ h. absurd cc; cursor_is = refl; looking_is = refl; sweeping_is = refl; chain_is = refl; clearing_is = refl; returned_is = tt });
+  collector =
+      first_seat _ (whole z) (λ own. record {
+        job_is = refl;
+        hand_is = refl;
+        found_is = λ u. refl;
+        clean_is = λ h. absurd cc;
+        cursor_is = refl;
+        looking_is = refl;
+        sweeping_is = refl;
+        chain_is = refl;
+        clearing_is = refl;
+        returned_is = tt;
+      });
   known = first_seat _ (whole z) (λ p q x own is. absurd cc);
   lates = first_seat _ (whole z) (λ p q is own. refl);
   memos = first_seat _ (whole z) tt;

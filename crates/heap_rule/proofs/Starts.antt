@@ -32,8 +32,10 @@ below_suc i n a off = go (nat_lt i n) refl (nat_lt i (suc n)) refl
 below_here : (i n a : ℕ) → eqb i n ≡ true → a ≡ cond (nat_lt i (suc n)) a 0
 below_here i n a on = let same = eqb-true i n on in let low : nat_lt i (suc n) ≡ true = lt-ltb i (suc n) (omega (arith, same)) in rw low refl
 
-pub link_more : (z : Sizes) (words : List ℕ) (n x : ℕ) → n < item_count z → x ≡ first_memory z (part.Next n) → Shows z words (linked_below z n) → Shows z (set words (place z (part.Next n)) x) (linked_below z (suc n))
-link_more z words n x inside is h = shows_as z (set words (place z (part.Next n)) x) (write (linked_below z n) (part.Next n) x) (linked_below z (suc n)) same (shows_set z words (linked_below z n) (part.Next n) x inside h)
+pub link_more : (z : Sizes) (words : List ℕ) (n x : ℕ) → n < item_count z → x ≡ first_memory z (part.Next n) → Shows z words (linked_below z n)
+    → Shows z (set words (place z (part.Next n)) x) (linked_below z (suc n))
+link_more z words n x inside is h =
+    shows_as z (set words (place z (part.Next n)) x) (write (linked_below z n) (part.Next n) x) (linked_below z (suc n)) same (shows_set z words (linked_below z n) (part.Next n) x inside h)
   where
     at : (i : ℕ) (b : Bool) → eqb i n ≡ b → cond b x (cond (nat_lt i n) (first_memory z (part.Next i)) 0) ≡ cond (nat_lt i (suc n)) (first_memory z (part.Next i)) 0
     at i true e = is ∙ (ap (λ (j : ℕ). first_memory z (part.Next j)) (sym (eqb-true i n e)) ∙ below_here i n (first_memory z (part.Next i)) e)
@@ -43,8 +45,11 @@ link_more z words n x inside is h = shows_as z (set words (place z (part.Next n)
     same (part.Next i) within = at i (eqb i n) refl
     same _ within = refl
 
-pub stock_more : (z : Sizes) (words : List ℕ) (n x : ℕ) → n < z.lanes → x ≡ first_memory z (part.FreeStock n) → Shows z words (stocked_below z n) → Shows z (set words (place z (part.FreeStock n)) x) (stocked_below z (suc n))
-stock_more z words n x inside is h = shows_as z (set words (place z (part.FreeStock n)) x) (write (stocked_below z n) (part.FreeStock n) x) (stocked_below z (suc n)) same (shows_set z words (stocked_below z n) (part.FreeStock n) x inside h)
+pub stock_more : (z : Sizes) (words : List ℕ) (n x : ℕ) → n < z.lanes → x ≡ first_memory z (part.FreeStock n) → Shows z words (stocked_below z n)
+    → Shows z (set words (place z (part.FreeStock n)) x) (stocked_below z (suc n))
+stock_more z words n x inside is h =
+    shows_as z (set words (place z (part.FreeStock n)) x) (write (stocked_below z n) (part.FreeStock n) x) (stocked_below z (suc n)) same
+    (shows_set z words (stocked_below z n) (part.FreeStock n) x inside h)
   where
     at : (i : ℕ) (b : Bool) → eqb i n ≡ b → cond b x (cond (nat_lt i n) (first_memory z (part.FreeStock i)) 0) ≡ cond (nat_lt i (suc n)) (first_memory z (part.FreeStock i)) 0
     at i true e = is ∙ (ap (λ (j : ℕ). first_memory z (part.FreeStock j)) (sym (eqb-true i n e)) ∙ below_here i n (first_memory z (part.FreeStock i)) e)
@@ -100,8 +105,12 @@ first_of_lane z l some = go z.quota some (l * z.quota)
     go zero h i = absurd (omega (arith, h))
     go (suc n) h i = refl
 
-pub link_next : (z : Sizes) (words : List ℕ) (n x : ℕ) → n < item_count z → x ≡ first_memory z (part.Next n) → Shows z words (linked_below z n) → Shows z (set words (place z (part.Next n)) x) (linked_below z (n + 1))
-link_next z words n x inside is h = let more : suc n ≡ n + 1 = omega arith in subst (λ (m : ℕ). Shows z (set words (place z (part.Next n)) x) (linked_below z m)) more (link_more z words n x inside is h)
+pub link_next : (z : Sizes) (words : List ℕ) (n x : ℕ) → n < item_count z → x ≡ first_memory z (part.Next n) → Shows z words (linked_below z n)
+    → Shows z (set words (place z (part.Next n)) x) (linked_below z (n + 1))
+link_next z words n x inside is h =
+    let more : suc n ≡ n + 1 = omega arith in subst (λ (m : ℕ). Shows z (set words (place z (part.Next n)) x) (linked_below z m)) more (link_more z words n x inside is h)
 
-pub stock_next : (z : Sizes) (words : List ℕ) (n x : ℕ) → n < z.lanes → x ≡ first_memory z (part.FreeStock n) → Shows z words (stocked_below z n) → Shows z (set words (place z (part.FreeStock n)) x) (stocked_below z (n + 1))
-stock_next z words n x inside is h = let more : suc n ≡ n + 1 = omega arith in subst (λ (m : ℕ). Shows z (set words (place z (part.FreeStock n)) x) (stocked_below z m)) more (stock_more z words n x inside is h)
+pub stock_next : (z : Sizes) (words : List ℕ) (n x : ℕ) → n < z.lanes → x ≡ first_memory z (part.FreeStock n) → Shows z words (stocked_below z n)
+    → Shows z (set words (place z (part.FreeStock n)) x) (stocked_below z (n + 1))
+stock_next z words n x inside is h =
+    let more : suc n ≡ n + 1 = omega arith in subst (λ (m : ℕ). Shows z (set words (place z (part.FreeStock n)) x) (stocked_below z m)) more (stock_more z words n x inside is h)

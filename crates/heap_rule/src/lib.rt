@@ -17,6 +17,7 @@
 
 pub mod asks;
 mod heap;
+mod seats;
 mod start;
 pub mod views;
 mod words;
