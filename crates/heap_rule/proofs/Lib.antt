@@ -1,8 +1,11 @@
 pub mod Placing
 pub mod Starts
 pub mod News
-pub mod Steps
+pub mod Seated
 pub mod Seatings
 pub mod Splits
 pub mod Joinings
 pub mod Joins
+pub mod Pasts
+pub mod Loads
+pub mod Looks

@@ -2,7 +2,7 @@
 use Rattle.std.specs.Prelude.{◌≡◌, ℕ, ◌+◌, ◌-◌, ◌/◌, ◌%◌, ◌^◌, ◌==◌, Bool, true, false, if◌then◌else◌, [], Option, Some, None, bit_and, bit_or, unwrap_or}
 use prog.Atomic.{either}
 use Rattle.atomic_table.specs.Table.{Allows}
-use Rattle.world_model.specs.Sizes.{Sizes}
+use Rattle.world_model.specs.Sizes.{Sizes, IsLawful}
 use Rattle.world_model.specs.Stays.{parity_of}
 use Rattle.word_layout.specs.Values.{gate_word}
 use Rattle.word_layout.specs.Places.{place}
@@ -228,7 +228,7 @@ ask_effect v (ask.Lane l a) word = lane_effect v a word
 ask_effect v (ask.Marker m a) word = marker_effect v a word
 ask_effect v (ask.Collector a) word = collector_effect v a word
 
--- the step keeps the rule, and tells what the ask says, whatever other seats do meanwhile
+-- In a lawful shape the step keeps the rule, and tells what the ask says, whatever other seats do meanwhile
 abbrev pub Keeping : Sizes → Ask → Type 0
-Keeping z a = (id word : ℕ) (v : View) → MayAsk z v a word
+Keeping z a = IsLawful z → (id word : ℕ) (v : View) → MayAsk z v a word
     → Allows (Keeps z) 0 id (v, []) (place z (ask_part z v a)) (ask_effect v a word) (λ found me. (me.1 ≡ []) × Tells z a word v found me.0)

@@ -19,6 +19,7 @@ pub mod asks;
 mod heap;
 mod seats;
 mod start;
+pub mod steps;
 pub mod views;
 mod words;
 

@@ -3,7 +3,7 @@ use Rattle.word_layout.specs.Places.{place}
 use Rattle.word_layout.proofs.Apart.{places_fit}
 use Rattle.heap_rule.specs.Seats.{SeatIs}
 use Rattle.heap_rule.specs.Tells.{Tells}
-use Rattle.heap_rule.proofs.Steps.{step_may}
+use Rattle.heap_rule.proofs.Seated.{step_may}
 use Rattle.heap_rule.proofs.words.fetch_add.Goals as goal
 
 pub fetch_add-requires : goal.fetch_add-requires

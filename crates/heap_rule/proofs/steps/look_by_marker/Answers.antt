@@ -1,0 +1,5 @@
+use Rattle.heap_rule.proofs.Looks.{marker_looks}
+use Rattle.heap_rule.proofs.steps.look_by_marker.Goals as goal
+
+pub load-requires-clause-rule : goal.load-requires-clause-rule
+load-requires-clause-rule g c = let z = g.S.Shape.sizes in marker_looks z c.args.marker g.S.Shape.lawful c.args.seat.now.id 0 c.args.seat.now.view c.requires.may

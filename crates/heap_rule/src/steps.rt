@@ -1,0 +1,63 @@
+//! One function for each kind of step, on a heap and a seat.
+ghost use Rattle.std.specs.Prelude.{◌≡◌, true};
+ghost use Rattle.heap_rule.specs.Types.{Lane, Marker, Collector};
+ghost use Rattle.heap_rule.specs.Types.ask;
+ghost use Rattle.heap_rule.specs.Types.lane_ask;
+ghost use Rattle.heap_rule.specs.Types.lane_gate;
+ghost use Rattle.heap_rule.specs.Types.marker_ask;
+ghost use Rattle.heap_rule.specs.Types.collector_ask;
+ghost use Rattle.heap_rule.specs.Types.collector_gate;
+ghost use Rattle.heap_rule.specs.Tells.{MayAsk, Tells};
+ghost use Rattle.heap_rule.specs.Seats.{Follows};
+
+use crate::asks::{Ask, CollectorAsk, CollectorGate, LaneAsk, LaneGate, MarkerAsk};
+use crate::heap::{Heap, Seat};
+use crate::words::load;
+use std::marker::Brand;
+use word_layout::Part;
+use world_model::Shape;
+
+/// A lane loads the gate, to know the phase and the parity. No section of the rule is touched: the words stay.
+pub fn look_by_lane<S: Shape>(heap: &Heap<S>, seat: &mut Seat, lane: u32) -> u64
+    requires heap { seat.old.heap ≡ heap.now }
+    requires may { MayAsk S.sizes seat.old.view (ask.Lane lane (lane_ask.LoadGate lane_gate.Look)) 0 }
+    ensures seat { Follows seat.old seat.new }
+    ensures told { Tells S.sizes (ask.Lane lane (lane_ask.LoadGate lane_gate.Look)) 0 seat.old.view result seat.new.view }
+{
+    let ask = Ask::Lane {
+        lane,
+        ask: LaneAsk::LoadGate {
+            why: LaneGate::Look,
+        },
+    };
+    load::<S, Brand>(heap, seat, &ask, Part::Gate)
+}
+
+/// A marker loads the gate, to know the phase and the parity.
+pub fn look_by_marker<S: Shape>(heap: &Heap<S>, seat: &mut Seat, marker: u32) -> u64
+    requires heap { seat.old.heap ≡ heap.now }
+    requires may { MayAsk S.sizes seat.old.view (ask.Marker marker marker_ask.LoadGate) 0 }
+    ensures seat { Follows seat.old seat.new }
+    ensures told { Tells S.sizes (ask.Marker marker marker_ask.LoadGate) 0 seat.old.view result seat.new.view }
+{
+    let ask = Ask::Marker {
+        marker,
+        ask: MarkerAsk::LoadGate,
+    };
+    load::<S, Brand>(heap, seat, &ask, Part::Gate)
+}
+
+/// The collector loads the gate, to know the phase and the parity.
+pub fn look_by_collector<S: Shape>(heap: &Heap<S>, seat: &mut Seat) -> u64
+    requires heap { seat.old.heap ≡ heap.now }
+    requires may { MayAsk S.sizes seat.old.view (ask.Collector (collector_ask.LoadGate collector_gate.Look)) 0 }
+    ensures seat { Follows seat.old seat.new }
+    ensures told { Tells S.sizes (ask.Collector (collector_ask.LoadGate collector_gate.Look)) 0 seat.old.view result seat.new.view }
+{
+    let ask = Ask::Collector {
+        ask: CollectorAsk::LoadGate {
+            why: CollectorGate::Look,
+        },
+    };
+    load::<S, Brand>(heap, seat, &ask, Part::Gate)
+}
