@@ -1,5 +1,6 @@
 -- What a seat must know to make a step of the collector.
-use Rattle.std.specs.Prelude.{◌≡◌, ◌≢◌, ℕ, suc, ◌+◌, ◌-◌, ◌*◌, ◌%◌, ◌^◌, ◌<◌, ◌≤◌, ◌⊎◌, min, Bool, true, false, if◌then◌else◌, List, [], ◌∷◌, ◌++◌, length, Option, Some, None, ⊤}
+use Rattle.std.specs.Prelude.{◌≡◌, ◌≢◌, ℕ, suc, ◌+◌, ◌-◌, ◌*◌, ◌%◌, ◌^◌, ◌<◌, ◌≤◌, ◌⊎◌, min, Bool, true, false, not, if◌then◌else◌, List, [], ◌∷◌, ◌++◌, length, Option, Some, None, ⊤}
+use Rattle.std.specs.List.{filter}
 use Rattle.world_model.specs.Sizes.{Sizes, item_count}
 use Rattle.world_model.specs.NameLists as names
 use Rattle.world_model.specs.NameLists.{begins_with}
@@ -62,6 +63,10 @@ all_found v = (after v.front).found ++ v.collector.sweeping
 abbrev pub removed_unit : View → Name → List Name
 removed_unit v n = old_unit (after v.front).last_removed n
 
+-- the removed objects that are found and not released, in the order of destruction
+abbrev pub left_now : View → List Name
+left_now v = left_in_order (after v.front).removals (after v.front).last_removed (all_found v)
+
 -- the unit that begins at this item is found, and the last of the order of destruction, and alone is not in the removed chain
 pub record MayAppend (z : Sizes) (v : View) (first : ℕ) : Type 0 where
   pub pass : IsCollecting v
@@ -70,7 +75,7 @@ pub record MayAppend (z : Sizes) (v : View) (first : ℕ) : Type 0 where
   pub index_is : of.index ≡ first
   pub in_array : first < item_count z
   pub begins : begins_with of.name (removed_unit v of.name) ≡ true
-  pub order : names_of v.collector.chain ++ removed_unit v of.name ≡ left_in_order (after v.front).removals (after v.front).last_removed (all_found v)
+  pub order : names_of v.collector.chain ++ removed_unit v of.name ≡ left_now v
 
 -- the unit that is the next to be released, by its first member
 abbrev pub IsNextReleased : View → Name → Type 0
@@ -120,7 +125,7 @@ KnowsLinks v end [] = ⊤
 KnowsLinks v end (i ∷ []) = known_in v.known Collector (part.Next i) ≡ Some end
 KnowsLinks v end (i ∷ (j ∷ is)) = (known_in v.known Collector (part.Next i) ≡ Some (suc j)) × KnowsLinks v end (j ∷ is)
 
--- the unit is cleared, out of the removed chain, and linked to the stock of returned items of its lane that is expected
+-- the unit is cleared and linked to the stock of returned items of its lane that is expected; and the removed chain has all others that are left
 pub record MayRelease (z : Sizes) (v : View) (l first expected new : ℕ) : Type 0 where
   pub pass : IsCollecting v
   pub agreed : NoneAgreed v
@@ -137,7 +142,7 @@ pub record MayRelease (z : Sizes) (v : View) (l first expected new : ℕ) : Type
   pub new_is : new ≡ stock_word (record { first = Some first; count = length members + stock.count })
   pub returned : v.collector.returned ≡ Some (record { lane = l; word = expected })
   pub linked : KnowsLinks v (place_number stock.first) (indexes members)
-  pub cut : Each (λ r. names.has (names_of v.collector.chain) r.name ≡ false) members
+  pub order : names_of v.collector.chain ≡ filter (λ n. not (names.has (removed_unit v of) n)) (left_now v)
 
 -- ---- destruction
 
@@ -213,7 +218,7 @@ CollectorMay z v (collector_ask.LookHead unit) word = IsCollecting v × ((after 
 CollectorMay z v collector_ask.Doom word = IsCollecting v × ((of : Ref) × (v.collector.looking ≡ White of)) × (word ≡ head_word (record { life = life.Doomed; colour = colour_of (parity_of v.front) false; polls = 0 }))
 CollectorMay z v (collector_ask.Settle budget) word = IsSweeping z v budget × (v.collector.cursor ≡ item_count z) × (word ≡ 2 ^ 64 - 1 - 3)
 CollectorMay z v (collector_ask.LoadOf index what) word = ((at : Ref) × CollectorMeets z v at × (at.index ≡ index)) × IsNoLink what
-CollectorMay z v (collector_ask.LoadHead i) word = IsChained v i × (v.collector.clearing ≡ None)
+CollectorMay z v (collector_ask.LoadHead i) word = IsChained v i × ((after v.front).phase ≢ Gathering) × (v.collector.clearing ≡ None)
 CollectorMay z v (collector_ask.LoadLink i) word = IsChained v i
 CollectorMay z v (collector_ask.Append first) word = MayAppend z v first × (word ≡ suc first)
 CollectorMay z v (collector_ask.CutUnit behind) word = (front : List Ref) × (rest : List Ref) × IsCollecting v × CutsUnit v behind front rest × (word ≡ place_number (first_item (indexes rest)))

@@ -24,10 +24,10 @@ use Rattle.heap_rule.specs.Types.collector_gate
 use Rattle.heap_rule.specs.Types.collector_ask
 use Rattle.heap_rule.specs.Units.{sizes_of}
 use Rattle.heap_rule.specs.Items.{first_item}
-use Rattle.heap_rule.specs.Removal.{life_of, left_in_order, indexes, names_of, Each}
+use Rattle.heap_rule.specs.Removal.{life_of, indexes, names_of, Each}
 use Rattle.heap_rule.specs.Views.{Absent, Among, is_late, known_but}
 use Rattle.heap_rule.specs.MarkerTells.{IsUnitOf, is_empty}
-use Rattle.heap_rule.specs.CollectorMay.{all_found, removed_unit, IsNextReleased, CutsUnit, CollectorCounts}
+use Rattle.heap_rule.specs.CollectorMay.{left_now, removed_unit, IsNextReleased, CutsUnit, CollectorCounts}
 use Rattle.heap_rule.specs.Telling.{Adds, with_collector, learns, falls_behind, catches_up, without, ref_list, Gave, AllInArray, SawGate, SawHead, is_marked_head, is_live, is_bit, IsTheRef, SeenFor, KnownSays, WordSays, item_behind}
 
 -- ---- the gate
@@ -161,9 +161,9 @@ abbrev pub life_view : LifeStep → View → View
 life_view (life_step.Ask poll answer) v = falls_behind part.Polling v
 life_view _ v = v
 
--- a counter that is not behind is as the history has it, and the first word of the removed chain as the view has it
+-- a counter that is not behind is as the history has it; and the first word of the removed chain is as the view has it, which has the objects that are left but while it is behind
 abbrev pub CountSays : View → Part → ℕ → Type 0
-CountSays v part.Removed found = found ≡ place_number (first_item (indexes v.collector.chain))
+CountSays v part.Removed found = (found ≡ place_number (first_item (indexes v.collector.chain))) × (is_late v.late part.Removed ≡ false → names_of v.collector.chain ≡ left_now v)
 CountSays v q found = is_late v.late q ≡ false → CollectorCounts v q found
 
 -- a link of the removed chain is as the view has it
@@ -223,7 +223,7 @@ CollectorTells z (collector_ask.LoadOf index what) word v before found w = (at :
 CollectorTells z (collector_ask.LoadHead i) word v before found w = (at : Ref) × (h : Head) × Among at v.collector.chain × (at.index ≡ i) × LifeSays (after before) v found at h × Adds z v before [] (learns Collector (part.Head i) found v) w
 CollectorTells z (collector_ask.LoadLink i) word v before found w = ChainSays v i found × Adds z v before [] (learns Collector (part.Next i) found v) w
 CollectorTells z (collector_ask.Append first) word v before found w = (of : Name) × (members : List Ref) × (names_of members ≡ removed_unit v of) × AllInArray z (indexes members) × (first_item (indexes members) ≡ Some first)
-    × (names_of v.collector.chain ++ names_of members ≡ left_in_order (after v.front).removals (after v.front).last_removed (all_found v))
+    × (names_of v.collector.chain ++ names_of members ≡ left_now v)
     × Adds z v before [] (falls_behind part.Polling (catches_up part.Removed (with_collector (λ d. record d { chain = d.chain ++ members }) (record v { refs = members ++ v.refs })))) w
 CollectorTells z (collector_ask.CutUnit behind) word v before found w = (front : List Ref) × (rest : List Ref) × CutsUnit v behind front rest
     × Adds z v before [] (falls_behind part.Removed (with_collector (λ d. record d { chain = front ++ rest }) v)) w

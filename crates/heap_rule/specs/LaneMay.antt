@@ -232,7 +232,7 @@ LaneMay z v l (lane_ask.Publish first) word = ((kinds : List Kind) × MayPublish
 LaneMay z v l (lane_ask.TakeReturn asked) word = IsReady v l × IsPaid v l × (asked ≤ z.names - made (after v.front) l) × (word ≡ 0)
 LaneMay z v l (lane_ask.TakeFree count) word = (has_pass v.passes (Lane l) ≡ true) × (count ≤ length (lane_in v.lanes l).free)
     × (word ≡ stock_word (record { first = first_item (drop count (lane_in v.lanes l).free); count = length (lane_in v.lanes l).free - count }))
-LaneMay z v l (lane_ask.GiveFree kept) word = (has_pass v.passes (Lane l) ≡ true) × AreUnfilled v l (drop kept (lane_in v.lanes l).making)
+LaneMay z v l (lane_ask.GiveFree kept) word = (has_pass v.passes (Lane l) ≡ true) × AreUnfilled v l (lane_in v.lanes l).making
     × AreLinked v l (place_number (first_item (lane_in v.lanes l).free)) (drop kept (lane_in v.lanes l).making) × (kept < length (lane_in v.lanes l).making)
     × (word ≡ stock_word (record { first = first_item (drop kept (lane_in v.lanes l).making); count = length (drop kept (lane_in v.lanes l).making) + length (lane_in v.lanes l).free }))
 LaneMay z v l (lane_ask.LoadNames asked) word = IsReady v l × IsPaid v l × (is_late v.late (part.NamesMade l) ≡ false)

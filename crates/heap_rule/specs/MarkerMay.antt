@@ -20,6 +20,10 @@ pub record InSlice (v : View) (m : ℕ) : Type 0 where
   pub pass : has_pass v.passes (Marker m) ≡ true
   pub opened : is_open (after v.front) (Marker m) ≡ true
 
+-- no other marker of the seat has its slice open
+abbrev pub IsAlone : View → ℕ → Type 0
+IsAlone v m = (j : ℕ) → has_pass v.passes (Marker j) ≡ true → is_open (after v.front) (Marker j) ≡ true → j ≡ m
+
 -- it has neither a stack nor a scan
 pub record IsIdle (v : View) (m : ℕ) : Type 0 where
   pub slice : InSlice v m
@@ -75,7 +79,7 @@ MarkerMay z v m marker_ask.Open word = (m < z.markers) × (has_pass v.passes (Ma
 MarkerMay z v m (marker_ask.Close budget reply) word = MayCloseSlice z v m budget reply × (word ≡ 256)
 MarkerMay z v m marker_ask.ShadeFound word = InSlice v m × ((t : ℕ) × HasFound v m t) × (word ≡ (if parity_of v.front then colour_bit else 2 ^ 64 - 1 - colour_bit))
 MarkerMay z v m (marker_ask.ScanCell i slot) word = InSlice v m × IsAtCell z v m i slot × (i < item_count z) × (slot < z.slots)
-MarkerMay z v m (marker_ask.AddRow unit) word = InSlice v m × (has (marker_in v.markers m).stack unit ≡ true) × (word ≡ 2 ^ (unit % 64))
+MarkerMay z v m (marker_ask.AddRow unit) word = InSlice v m × IsAlone v m × (has (marker_in v.markers m).stack unit ≡ true) × (word ≡ 2 ^ (unit % 64))
 MarkerMay z v m (marker_ask.TakeRow row n) word = IsIdle v m × IsRowWord z row n × (word ≡ 0)
 MarkerMay z v m (marker_ask.LoadRow row n) word = InSlice v m × IsRowWord z row n
 MarkerMay z v m marker_ask.SetDirty word = (has_pass v.passes (Marker m) ≡ true) × ((marker_in v.markers m).owes ≡ true) × (word ≡ 8)

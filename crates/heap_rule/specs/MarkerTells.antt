@@ -8,13 +8,14 @@ use Rattle.world_model.specs.Histories.{state_of, after}
 use Rattle.world_model.specs.Follows.{entry}
 use Rattle.word_layout.specs.Places.{row_words}
 use Rattle.mark_core.specs.Changes.{has}
-use Rattle.heap_rule.specs.Types.{Name, Ref, Marker, MarkStop, Entry, Gate, Head, Scanning, MarkerView, View, MarkerAsk}
+use Rattle.heap_rule.specs.Types.{Name, Ref, Lane, Marker, Collector, MarkStop, Entry, Gate, Head, Scanning, MarkerView, View, MarkerAsk}
 use Rattle.heap_rule.specs.Types.act
 use Rattle.heap_rule.specs.Types.stop
 use Rattle.heap_rule.specs.Types.marker_ask
 use Rattle.heap_rule.specs.Units.{first_of, cell_number, numbers_from}
-use Rattle.heap_rule.specs.Views.{Absent, marker_in}
+use Rattle.heap_rule.specs.Views.{has_pass, Absent, lane_in, marker_in}
 use Rattle.heap_rule.specs.LaneTells.{unclean}
+use Rattle.heap_rule.specs.MarkerMay.{IsAlone}
 use Rattle.heap_rule.specs.Telling.{Adds, with_marker, without, Gave, AllInArray, SawGate, SawHead, is_marked_head, is_bit, IsTheRef, SeenFor, WordSays}
 
 -- ---- scans
@@ -71,17 +72,23 @@ is_idle d = is_empty d.stack && is_none d.scan
 
 -- ---- the end of a slice
 
--- of the seat with all passes, nothing is grey where a slice says that it is idle
-abbrev pub IdleIs : Sizes → View → View → MarkStop → Type 0
-IdleIs z v w stop.Spent = Unit {0}
-IdleIs z v w stop.Idle = (Absent z v.passes → ⊥) → grey_units (state_of w.front) ≡ []
+-- nothing of the seat is under way but this slice
+pub record OnlySlice (v : View) (m : ℕ) : Type 0 where
+  pub slices : IsAlone v m
+  pub lanes : (l : ℕ) → has_pass v.passes (Lane l) ≡ true → (lane_in v.lanes l).hand ≡ None
+  pub collector : has_pass v.passes Collector ≡ true → v.collector.hand ≡ None
+
+-- of the seat with all passes, nothing is grey where its only slice says that it is idle
+abbrev pub IdleIs : Sizes → View → ℕ → View → MarkStop → Type 0
+IdleIs z v m w stop.Spent = Unit {0}
+IdleIs z v m w stop.Idle = (Absent z v.passes → ⊥) → has_pass v.passes Collector ≡ true → OnlySlice v m → grey_units (state_of w.front) ≡ []
 
 -- ---- all of it
 
 -- what a step of this marker tells
 abbrev pub MarkerTells : Sizes → ℕ → MarkerAsk → ℕ → View → List Entry → ℕ → View → Type 0
 MarkerTells z m marker_ask.Open word v before found w = (g : Gate) × SawGate before found g × Adds z v before (entry (Marker m) act.SliceOpen ∷ []) (with_marker m (λ d. record d { zeros = [] }) v) w
-MarkerTells z m (marker_ask.Close budget reply) word v before found w = IdleIs z v w reply.stop × Adds z v before (entry (Marker m) (act.Slice budget reply) ∷ []) v w
+MarkerTells z m (marker_ask.Close budget reply) word v before found w = IdleIs z v m w reply.stop × Adds z v before (entry (Marker m) (act.Slice budget reply) ∷ []) v w
 MarkerTells z m marker_ask.ShadeFound word v before found w = (s : Scanning) × (t : ℕ) × (of : Name) × (first : Ref) × (h : Head) × ((marker_in v.markers m).scan ≡ Some s) × (s.found ≡ Some t)
     × IsUnitOf z (after before) of t first × SawHead found h
     × (is_marked_head before h ≡ false → has (marker_in v.markers m).stack t ≡ false)

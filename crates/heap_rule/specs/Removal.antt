@@ -97,9 +97,10 @@ pub record SweptShown (z : Sizes) (index : Name → ℕ) (phase : Phase) (remova
   pub removed : (n : Name) → has sweeping n ≡ true → is_among removals n ≡ true
   pub fresh : (n : Name) → has sweeping n ≡ true → has found n ≡ false
 
--- what the sweep knows of the item at its cursor: where its owner named a unit that is removed, it is an item of that; or it is that of a first member that no sweep has met
+-- what the sweep knows of the item at its cursor: where its owner named a unit that is removed, it is an item of that, and if its object is removed, then as one of that unit; or it is the item of a first member that no sweep has met
 abbrev pub LookingShown : Sizes → (Name → ℕ) → (ℕ → Spot) → List Removal → List (List Name) → List Name → ℕ → Looking → Type 0
 LookingShown z index spot removals last_removed found cursor Fresh = ⊤
 LookingShown z index spot removals last_removed found cursor (Owned u) = (cursor < item_count z) × (u < item_count z)
     × ((n : Name) → is_among removals n ≡ true → begins_with n (old_unit last_removed n) ≡ true → index n ≡ u → (m : Name) × (spot cursor ≡ Holds m) × (has (old_unit last_removed n) m ≡ true))
+    × ((m : Name) → spot cursor ≡ Holds m → is_among removals m ≡ true → number index (old_unit last_removed m) ≡ u)
 LookingShown z index spot removals last_removed found cursor (White r) = (cursor < item_count z) × (r.index ≡ cursor) × (index r.name ≡ cursor) × (waits_in removals last_removed found r.name ≡ true)
