@@ -40,7 +40,7 @@ none_of_none [] = refl
 none_of_none (e ∷ es) = none_of_none es
 
 -- entries of none of these passes are of others than one of them
-others_of : (passes : List Pass) (p : Pass) → has_pass passes p ≡ true → (rest : List Entry) → by_passes passes rest ≡ [] → AllByRecursion (λ e. e.pass ≢ p) rest
+pub others_of : (passes : List Pass) (p : Pass) → has_pass passes p ≡ true → (rest : List Entry) → by_passes passes rest ≡ [] → AllByRecursion (λ e. e.pass ≢ p) rest
 others_of passes p own [] none = tt
 others_of passes p own (e ∷ es) none = go (has_pass passes e.pass) refl none (λ h. others_of passes p own es h)
   where

@@ -9,3 +9,4 @@ pub mod Joins
 pub mod Pasts
 pub mod Loads
 pub mod Looks
+pub mod Opens

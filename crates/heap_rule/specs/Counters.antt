@@ -1,15 +1,13 @@
 -- Counters: the words that count for one pass what the history says, but while that pass is behind.
-use Rattle.std.specs.Prelude.{◌≡◌, ℕ, ◌<◌, Bool, false, List, Option, Some, None, option_map, option_and_then}
+use Rattle.std.specs.Prelude.{◌≡◌, ℕ, ◌<◌, Bool, false, Option, Some, None, option_and_then}
 use Rattle.std.specs.List.{find}
 use Rattle.world_model.specs.Sizes.{Sizes}
 use Rattle.world_model.specs.NameLists.{after_name, members}
 use Rattle.world_model.specs.World.{World, destruction_order}
 use Rattle.world_model.specs.Follows.{is_removed}
 use Rattle.word_layout.specs.Values.{place_number}
-use Rattle.heap_rule.specs.Types.{Name, Ref, Phase, Gathering, Pass, Lane, Collector, Part}
+use Rattle.heap_rule.specs.Types.{Name, Phase, Gathering, Pass, Lane, Collector, Part}
 use Rattle.heap_rule.specs.Types.part
-use Rattle.heap_rule.specs.Items.{last_item}
-use Rattle.heap_rule.specs.Removal.{indexes}
 
 -- the pass whose counter it is; the mark of the first word of the removed chain stands for the whole chain
 abbrev pub counter_pass : Part → Option Pass
@@ -25,12 +23,12 @@ counter_pass _ = None
 abbrev pub polls_next : World → Option Name → Option Name
 polls_next w asked = option_and_then (λ last. find (is_removed w) (after_name last (members (destruction_order w)))) asked
 
--- the place of the polls; while a collection gathers, the last item of the removed chain, behind which a sweep links the next unit
-abbrev pub polls_at : (Name → ℕ) → List Ref → World → Option Name → Phase → Option ℕ
-polls_at index chain w asked Gathering = last_item (indexes chain)
-polls_at index chain w asked _ = option_map index (polls_next w asked)
+-- the one while a collection gathers, and else the other
+abbrev pub while_gathering : {A : Type 0} → Phase → A → A → A
+while_gathering Gathering a b = a
+while_gathering _ a b = b
 
--- of each lane the names that it has made and the serials that it has drawn; the items that sweeps have looked at, the removed objects that are left, and the place of the polls
+-- of each lane the names that it has made and the serials that it has drawn; the items that sweeps have looked at, the number of removed objects that are left, and the place of the polls
 pub record CountersShown (z : Sizes) (names serials : ℕ → ℕ) (cursor left polling : ℕ) (late : Part → Bool) (made drawn : ℕ → ℕ) (swept left_now : ℕ) (polls : Option ℕ) : Type 0 where
   pub names_are : (l : ℕ) → l < z.lanes → late (part.NamesMade l) ≡ false → names l ≡ made l
   pub serials_are : (l : ℕ) → l < z.lanes → late (part.SerialsMade l) ≡ false → serials l ≡ drawn l

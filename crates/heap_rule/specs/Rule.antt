@@ -1,10 +1,10 @@
 -- The rule: one legal history that the words show, and what each seat knows of it.
-use Rattle.std.specs.Prelude.{◌≡◌, ℕ, Bool, List, ◌++◌, length, Option}
+use Rattle.std.specs.Prelude.{◌≡◌, ℕ, Bool, List, ◌++◌, length, Option, option_map}
 use Rattle.std.specs.List.{list_any}
 use Rattle.atomic_table.specs.Table as table
 use Rattle.world_model.specs.Sizes.{Sizes}
 use Rattle.world_model.specs.NameLists as names
-use Rattle.world_model.specs.World.{World, unit_of, in_world, kind_of, refs_of, plain_of, pair_of, occupied, made, drawn, left_of}
+use Rattle.world_model.specs.World.{World, unit_of, in_world, kind_of, refs_of, plain_of, pair_of, occupied, made, drawn}
 use Rattle.world_model.specs.State.{State, is_marked, is_grey}
 use Rattle.world_model.specs.Histories.{Legal, state_of}
 use Rattle.world_model.specs.Follows.{is_removed}
@@ -17,11 +17,11 @@ use Rattle.heap_rule.specs.Memory.{Memory, Shows}
 use Rattle.heap_rule.specs.Units.{sizes_of}
 use Rattle.heap_rule.specs.Colours.{GateShown, HeadsShown, RowsShown, RootWordsShown, FramesShown, ColoursShown, GreysShown, CellsShown, RootsShown, HeldShown}
 use Rattle.heap_rule.specs.Contents.{ContentsShown, StrongsShown}
-use Rattle.heap_rule.specs.Items.{Spot, ItemsShown, BlankShown, ChainsShown, CountsShown, UnitsLinked}
+use Rattle.heap_rule.specs.Items.{Spot, last_item, ItemsShown, BlankShown, ChainsShown, CountsShown, UnitsLinked}
 use Rattle.heap_rule.specs.Loosening.{LoosensShown}
 use Rattle.heap_rule.specs.Pairs.{PairsShown}
-use Rattle.heap_rule.specs.Removal.{waits_in, clears_of, RemainsShown, ClearingShown, RemovedLinked, RemovedChainShown, SweptShown, LookingShown}
-use Rattle.heap_rule.specs.Counters.{polls_at, CountersShown}
+use Rattle.heap_rule.specs.Removal.{indexes, waits_in, clears_of, RemainsShown, ClearingShown, RemovedLinked, RemovedChainShown, SweptShown, LookingShown}
+use Rattle.heap_rule.specs.Counters.{polls_next, while_gathering, CountersShown}
 use Rattle.heap_rule.specs.Licences.{LanesLicensed, FoundsLicensed, RootsLicensed, StoresLicensed}
 use Rattle.heap_rule.specs.Views.{EachSeat}
 use Rattle.heap_rule.specs.Sees.{SeesHistory, SeesRefs, SeesLanes, SeesMarkers, SeesCollector, SeesKnown, SeesLate, SeesMemos}
@@ -102,7 +102,8 @@ pub record Keeps (z : Sizes) (t : table.State (Unit {0}) View) : Type 0 where
   pub swept : SweptShown z index s.world.phase s.world.removals s.world.found sweeping cursor s.world.swept
   pub looks : LookingShown z index spot s.world.removals s.world.last_removed (s.world.found ++ sweeping) cursor looking
   -- counters
-  pub counters : CountersShown z (λ l. memory (part.NamesMade l)) (λ l. memory (part.SerialsMade l)) (memory part.Cursor) (memory part.Left) (memory part.Polling) late (made s.world) (drawn s.world) s.world.swept (left_of s.world) (polls_at index chain s.world s.collector.asked s.world.phase)
+  pub counters : CountersShown z (λ l. memory (part.NamesMade l)) (λ l. memory (part.SerialsMade l)) (memory part.Cursor) (memory part.Left) (memory part.Polling) late (made s.world) (drawn s.world) s.world.swept (while_gathering s.world.phase (length s.world.found) (length s.world.removals))
+      (while_gathering s.world.phase (last_item (indexes chain)) (option_map index (polls_next s.world s.collector.asked)))
   -- licences
   pub lane_licence : LanesLicensed c.hand c.lane_owes (λ l. (s.frames l).shaded)
   pub found_licence : FoundsLicensed index s.world.units c.scan (λ m. (s.slices m).moments)

@@ -12,10 +12,25 @@ ghost use Rattle.heap_rule.specs.Seats.{Follows};
 
 use crate::asks::{Ask, CollectorAsk, CollectorGate, LaneAsk, LaneGate, MarkerAsk};
 use crate::heap::{Heap, Seat};
-use crate::words::load;
+use crate::words::{fetch_add, load};
 use std::marker::Brand;
 use word_layout::Part;
 use world_model::Shape;
+
+/// A lane opens its frame: one more frame is open. The colours' sections of gate and open frames change, the frame of the
+/// lane is empty, and each slice sees one moment more; all else stands.
+pub fn open_frame<S: Shape>(heap: &Heap<S>, seat: &mut Seat, lane: u32) -> u64
+    requires heap { seat.old.heap ≡ heap.now }
+    requires may { MayAsk S.sizes seat.old.view (ask.Lane lane lane_ask.Open) 256 }
+    ensures seat { Follows seat.old seat.new }
+    ensures told { Tells S.sizes (ask.Lane lane lane_ask.Open) 256 seat.old.view result seat.new.view }
+{
+    let ask = Ask::Lane {
+        lane,
+        ask: LaneAsk::Open,
+    };
+    fetch_add::<S, Brand>(heap, seat, &ask, Part::Gate, 256)
+}
 
 /// A lane loads the gate, to know the phase and the parity. No section of the rule is touched: the words stay.
 pub fn look_by_lane<S: Shape>(heap: &Heap<S>, seat: &mut Seat, lane: u32) -> u64
