@@ -1,5 +1,5 @@
 -- The numbers at which a test passes, as a list; and a word of bits counts them.
-use Rattle.std.proofs.Common.{◌≡◌, ◌≢◌, ℕ, zero, suc, ◌+◌, ◌*◌, ◌^◌, ◌<◌, ◌≤◌, eqb, refl, sym, ap, ◌∙◌, cond, ⊎_elim, Bool, true, false, List, [], ◌∷◌, length, count_ones, arith}
+use Rattle.std.proofs.Common.{◌≡◌, ◌≢◌, ℕ, zero, suc, ◌+◌, ◌<◌, ◌≤◌, eqb, refl, sym, ap, ◌∙◌, cond, ⊎_elim, Bool, true, false, List, [], ◌∷◌, length, count_ones, arith}
 use Rattle.std.proofs.lemmas.Bool.{eqb-true, eq-eqb}
 use Rattle.std.proofs.lemmas.Nat.{ones_cat}
 use Rattle.word_layout.specs.Values.{bit}
