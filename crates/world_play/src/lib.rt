@@ -1,7 +1,7 @@
 //! The player of level scripts, and the program as one call.
 //!
 //! It stands on `level_script` for what a script is, on `class_schema` for its classes, on `world_model` for what an engine does, on
-//! `heap_plain` for an engine, and on `play_io` for the outside. The player is written over any
+//! `heap_plain` for an engine, on `word_layout` for the words of weak pointers, and on `play_io` for the outside. The player is written over any
 //! engine. `specs/Lanes` and `specs/Collections` say what each command is, `specs/Plays` when a
 //! history plays lines, `specs/Text` has the text of a reply, `specs/Outcome` the outcome of a whole
 //! script, and `specs/Ends` what a whole run has done.
