@@ -15,5 +15,3 @@ mod diaries;
 mod heaps;
 #[cfg(test)]
 mod parts;
-#[cfg(test)]
-mod pointers;
