@@ -74,14 +74,7 @@ all_cleared-append xs (i ∷ is) j = all_cleared-append (set xs i 0) is j
 
 -- ---- objects at indexes in a row
 
--- one of the indexes has the name of one of the objects
-pub named_among : (names : List (Option Name)) (is : List ℕ) (ns : List Name) → AreNamed names is ns → (i : ℕ) → Among is i → (n : Name) × Among ns n × (name_at names i ≡ Some n)
-named_among names [] ns h i a = absurd a
-named_among names (j ∷ is) [] h i a = absurd h
-named_among names (j ∷ is) (m ∷ ns) h i (inl e) = (m, inl refl, ap (name_at names) (sym e) ∙ h.0)
-named_among names (j ∷ is) (m ∷ ns) h i (inr a) = let r = named_among names is ns h.1 i a in (r.0, inr r.1, r.2)
-
--- and each of the objects stands at one of them
+-- each of the objects stands at one of the indexes
 pub among_named : (names : List (Option Name)) (is : List ℕ) (ns : List Name) → AreNamed names is ns → (i : ℕ) (n : Name) → name_at names i ≡ Some n
     → ((i j : ℕ) (n : Name) → name_at names i ≡ Some n → name_at names j ≡ Some n → i ≡ j) → Among ns n → Among is i
 among_named names is [] h i n e alone a = absurd a

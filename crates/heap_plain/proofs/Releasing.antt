@@ -41,13 +41,13 @@ use Rattle.heap_plain.proofs.Listings.{linked_member, linked_named}
 use Rattle.heap_plain.proofs.BeginSteps.{left_idle}
 use Rattle.heap_plain.proofs.SweepSteps.{name_among, among_name}
 use Rattle.heap_plain.proofs.Gathering.{filter_one, same_unit, distinct_unit}
-use Rattle.heap_plain.proofs.Queueing.{named_none}
+use Rattle.heap_plain.proofs.Queueing.{named_none, named_in}
 use Rattle.heap_plain.proofs.Emptying.{Emptying, Emptied, Empties, empties}
 use Rattle.heap_plain.proofs.Restaging.{gone_index, free_lives}
 use Rattle.heap_plain.proofs.PurgeSteps.{IsAmid}
 use Rattle.heap_plain.specs.Serials.{serial_at, all_cleared}
 use Rattle.heap_plain.specs.Pairing.{PairsShow, IsPair, paired}
-use Rattle.heap_plain.proofs.Pointers.{strong_map, length-all_cleared, cleared_still, cleared_in, cleared_out, named_among, among_named}
+use Rattle.heap_plain.proofs.Pointers.{strong_map, length-all_cleared, cleared_still, cleared_in, cleared_out, among_named}
 
 -- ---- lists
 
@@ -383,7 +383,7 @@ module _ {z : Sizes} {p : Parts} {h : List Entry} (amid : IsAmid z p h) (idle : 
     own = λ i m e.
         let o = was_named i m e in
         subst (λ (x : ℕ). IsPair i x (pair_of (paired w.pairs) m)) (sym (cleared_out p.serials (chain p.next head (get_or p.sizes head 0)) i (λ a.
-        let x = named_among p.names _ u linked_names i a in
+        let x = named_in p.names _ u linked_names i a in
         let same : x.0 ≡ m = (let b = sym x.2 ∙ o.0 in cc) in
         clash x.0 (among_has u x.0 x.1) (ap (has u) same ∙ o.1))))
         (k.pairs.own i m o.0);
