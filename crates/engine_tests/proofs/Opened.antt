@@ -9,14 +9,15 @@ use Rattle.world_model.specs.State.{State, Marks}
 use Rattle.world_model.specs.Next.{next_world, next, run}
 use Rattle.world_model.specs.Histories.{after, state_of}
 use Rattle.world_model.specs.Calls.{by, Appends, EntriesOf, is_mark_note, is_purge_part}
-use Rattle.world_model.specs.Engines.{act_of_create, act_of_dissolve, IsInFrame}
+use Rattle.world_model.specs.Engines.{act_of_create, act_of_dissolve, act_of_weak, IsInFrame}
 use Rattle.world_model.proofs.Joins.{run-append, by-append}
 use Rattle.world_model.proofs.ListFacts.{and_true}
-use Rattle.heap_plain.specs.Types.{Name, Kind, Pass, Lane, Marker, Phase, Begin, Marked, Commit, Swept, Purged, CreateErr, DissolveErr, Act, Entry}
+use Rattle.heap_plain.specs.Types.{Name, Kind, Pass, Lane, Marker, Phase, Begin, Marked, Commit, Swept, Purged, CreateErr, DissolveErr, SerialsSpent, Weak, Act, Entry}
 use Rattle.heap_plain.specs.Types.act
 use Rattle.heap_plain.specs.Types.begin
 use Rattle.heap_plain.specs.Types.commit
 use Rattle.heap_plain.specs.Types.create
+use Rattle.engine_tests.specs.Shapes.{single}
 use Rattle.heap_plain.proofs.WorldFacts.{state_more, same_pass_refl}
 
 -- the acts that open or close nothing
@@ -135,6 +136,9 @@ in_frame h e = in_frame_of small h (omega arith) e
 pub in_level_frame : (h : List Entry) → (after h).opened ≡ Lane 0 ∷ [] → IsInFrame level h 0
 in_level_frame h e = in_frame_of level h (omega arith) e
 
+pub in_single_frame : (h : List Entry) → (after h).opened ≡ Lane 0 ∷ [] → IsInFrame single h 0
+in_single_frame h e = in_frame_of single h (omega arith) e
+
 -- that frame is opened, and closed
 pub opens_alone : {z : Sizes} {old new : List Entry} {phase : Phase} → Appends z old new (Lane 0) (act.FrameOpen phase) → (after old).opened ≡ [] → (after new).opened ≡ Lane 0 ∷ []
 opens_alone h none = opened_by_frame h ∙ ap (λ (passes : List Pass). Lane 0 ∷ passes) none
@@ -177,3 +181,33 @@ same_by_dissolve {old} {lane} at (Ok count) h = by_entries h ∙ run_opened (sta
     leaving [] = refl
     leaving (n ∷ of) = leaving of
 same_by_dissolve {old} {lane} at (Err refused) h = by_entries h ∙ run_opened (state_of old) (Lane lane) h.acts (ap (list_all is_inside) h.call.0)
+
+-- nor does writing or reading a strong pointer
+pub same_by_set_strong : {z : Sizes} {old new : List Entry} {p : Pass} {number : ℕ} {to was : Option Name}
+    → Appends z old new p (act.SetStrong number to was) → (after new).opened ≡ (after old).opened
+same_by_set_strong {old} {p} {number} {to} {was} h = by_entries h ∙ run_opened (state_of old) p h.acts (go h.acts h.call.0)
+  where
+    go : (acts : List Act) → EntriesOf (act.SetStrong number to was) acts → list_all is_inside acts ≡ true
+    go acts (inl e) = ap (list_all is_inside) e
+    go acts (inr e) = ap (list_all is_inside) e.1
+
+pub same_by_get_strong : {z : Sizes} {old new : List Entry} {p : Pass} {number : ℕ} {got : Option Name} → Appends z old new p (act.GetStrong number got) → (after new).opened ≡ (after old).opened
+same_by_get_strong {old} {p} h = by_entries h ∙ run_opened (state_of old) p h.acts (ap (list_all is_inside) h.call.0)
+
+-- nor does asking for a weak pointer, or resolving one
+pub same_by_weak : {z : Sizes} {old new : List Entry} {p : Pass} (at : Name) (result : Result Weak SerialsSpent) → Appends z old new p (act_of_weak at result) → (after new).opened ≡ (after old).opened
+same_by_weak {old} {p} at (Ok pair) h = by_entries h ∙ run_opened (state_of old) p h.acts (ap (list_all is_inside) h.call.0)
+same_by_weak {old} {p} at (Err spent) h = by_entries h ∙ run_opened (state_of old) p h.acts (ap (list_all is_inside) h.call.0)
+
+pub same_by_resolve : {z : Sizes} {old new : List Entry} {p : Pass} {pair : Weak} {got : Option Name} → Appends z old new p (act.Resolve pair got) → (after new).opened ≡ (after old).opened
+same_by_resolve {old} {p} h = by_entries h ∙ run_opened (state_of old) p h.acts (ap (list_all is_inside) h.call.0)
+
+-- the same of the frame of lane 1, where it alone is open
+pub in_other_frame : (h : List Entry) → (after h).opened ≡ Lane 1 ∷ [] → IsInFrame small h 1
+in_other_frame h e = record { in_range = omega arith; opened = ap (list_any (same_pass (Lane 1))) e }
+
+pub opens_other : {z : Sizes} {old new : List Entry} {phase : Phase} → Appends z old new (Lane 1) (act.FrameOpen phase) → (after old).opened ≡ [] → (after new).opened ≡ Lane 1 ∷ []
+opens_other h none = opened_by_frame h ∙ ap (λ (passes : List Pass). Lane 1 ∷ passes) none
+
+pub closes_other : {z : Sizes} {old new : List Entry} → Appends z old new (Lane 1) act.FrameClose → (after old).opened ≡ Lane 1 ∷ [] → (after new).opened ≡ []
+closes_other h one = closed_by_frame h ∙ ap (filter (λ q. not (same_pass (Lane 1) q))) one

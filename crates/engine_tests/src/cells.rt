@@ -453,28 +453,29 @@ fn make_before(rt: &impl Abort, heap: &mut PlainHeap<Level>, to: Option<Ref>) ->
     Ok(one[0])
 }
 
-/// Makes a chain of 8,000 objects, the last of which is rooted where that is asked for.
-fn chain(rt: &impl Abort, heap: &mut PlainHeap<Level>, rooted: bool) -> Result<(), Fail>
+/// Makes a chain of 8,000 objects, and gives the first of them, from which all others are reached.
+pub(crate) fn chain(rt: &impl Abort, heap: &mut PlainHeap<Level>) -> Result<Ref, Fail>
     requires opened { (after heap.old.history).opened ≡ Lane 0 ∷ [] }
     ensures opened { OnOk result ((after heap.new.history).opened ≡ Lane 0 ∷ []) }
+    ensures held { IfOk result (Holds heap.new 0) }
 {
     let mut last = make_before(rt, heap, None)?;
     for n in 1..8000 {
         let _ = n;
         last = make_before(rt, heap, Some(last))?;
     }
-    heap.set_root(0, last, rooted);
-    Ok(())
+    Ok(last)
 }
 
-/// How many objects of such a chain a collection scans and removes, and how many are left when they
-/// are destroyed.
+/// How many objects of such a chain, the first of which is rooted where that is asked for, a collection
+/// scans and removes, and how many are left when they are destroyed.
 fn chained(rt: &impl Abort, alloc: Global, rooted: bool) -> Result<(u32, u32, u32), Fail> {
     let mut heap = PlainHeap::<Level>::new(alloc)?;
     let mut found = [NOBODY; 64];
     let mut hooks = MemHooks::new(0);
     assert_eq!(rt; heap.open_frame(0), Phase::Idle);
-    chain(rt, &mut heap, rooted)?;
+    let first = chain(rt, &mut heap)?;
+    heap.set_root(0, first, rooted);
     heap.close_frame(0);
     assert_eq!(rt; heap.begin(), Begin::Started);
     let marked = heap.mark(0, 100000);

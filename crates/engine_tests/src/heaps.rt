@@ -174,7 +174,7 @@ fn gathering(rt: &impl Abort, alloc: Global) -> Result<PlainHeap<Small>, Fail>
     Ok(heap)
 }
 
-fn named(count: u64) -> Name {
+pub(crate) fn named(count: u64) -> Name {
     Name { lane: 0, count }
 }
 

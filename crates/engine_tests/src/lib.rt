@@ -15,3 +15,5 @@ mod diaries;
 mod heaps;
 #[cfg(test)]
 mod parts;
+#[cfg(test)]
+mod pointers;
