@@ -111,6 +111,54 @@ def new_names(total, _):
     return lines[: total - 1] + ["0 close"]
 
 
+def strong_lines(count, _):
+    """A strong pointer is set so often to the same object."""
+    return HEADER + ["0 open", "0 new a Node"] + ["0 hold 0 a"] * count + ["0 close"]
+
+
+def weak_lines(count, _):
+    """An object is asked so often for the weak pointer that it has."""
+    return HEADER + ["0 open", "0 new a Node"] + ["0 weak w a"] * count + ["0 close"]
+
+
+def drawn_lines(count, total):
+    """So many objects are made, and the first ones of them are asked for their first weak pointers."""
+    lines = HEADER + ["0 open"]
+    for k in range(total):
+        lines.append("0 new a Node")
+        if k < count:
+            lines.append("0 weak w a")
+    return lines + ["0 close"]
+
+
+def resolve_live(count, _):
+    """The weak pointer of an object that lives is resolved so often."""
+    return HEADER + ["0 open", "0 new a Node", "0 weak w a"] + ["0 resolve r w"] * count + ["0 close"]
+
+
+def resolve_free(count, _):
+    """The same where the object was destroyed, and its index is free."""
+    lines = HEADER + ["0 open", "0 new a Node", "0 weak w a", "0 close", "gc full", "0 open"]
+    return lines + ["0 resolve r w"] * count + ["0 close"]
+
+
+def resolve_again(count, _):
+    """The same where an object with a weak pointer of its own was made at that index since."""
+    lines = HEADER + ["0 open", "0 new a Node", "0 weak w a", "0 close", "gc full", "0 open"]
+    return lines + ["0 new b Node", "0 weak v b"] + ["0 resolve r w"] * count + ["0 close"]
+
+
+# What one line of a command costs: the difference of two scripts that differ in one number.
+POINTERS = (
+    ("hold", strong_lines, 100_000, 0),
+    ("weak again", weak_lines, 100_000, 0),
+    ("weak first", drawn_lines, 8_000, 8_000),
+    ("live", resolve_live, 100_000, 0),
+    ("dead, free", resolve_free, 100_000, 0),
+    ("dead, again", resolve_again, 100_000, 0),
+)
+
+
 def spent(program, script):
     """Processor seconds of one run, and the hash of what it wrote."""
     with open(script, "rb") as source:
@@ -165,6 +213,10 @@ def main():
         count = 80_000 // objects
         lines = churn(objects, count)
         show("churn", objects, len(lines), best(programs, lines), f"line, with {count} collections", len(lines))
+    for name, make, count, other in POINTERS:
+        some, none = make(count, other), make(0, other)
+        times = [max(a - b, 0) for a, b in zip(best(programs, some), best(programs, none))]
+        show(name, count, len(some), times, "line more", count)
 
 
 if __name__ == "__main__":
