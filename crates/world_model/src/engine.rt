@@ -1,11 +1,11 @@
 //! What every engine does, said by its history.
-ghost use Rattle.std.specs.Prelude.{◌≡◌, ◌+◌, ◌-◌, ◌<◌, ◌≤◌, ◌⊎◌, ℕ, List, All, IfSome, IsTrue, OnOk, OnErr, Some, length, map, take, drop, true, false};
+ghost use Rattle.std.specs.Prelude.{◌≡◌, ◌+◌, ◌-◌, ◌<◌, ◌≤◌, ◌⊎◌, ℕ, List, All, IfSome, IsTrue, OnOk, OnErr, Some, length, map, slice_get, take, drop, true, false};
 ghost use Rattle.std.specs.List.{list_all};
 ghost use Rattle.world_model.specs.Types.{Ref, Entry, Lane, Marker, Collector};
 ghost use Rattle.world_model.specs.Types.act;
 ghost use Rattle.world_model.specs.Types.sweep;
-ghost use Rattle.world_model.specs.NameLists.{names_from};
-ghost use Rattle.world_model.specs.World.{is_open, made, kind_of, refs_of, plain_of, left_of};
+ghost use Rattle.world_model.specs.NameLists.{names_from, first_member};
+ghost use Rattle.world_model.specs.World.{is_open, made, kind_of, unit_of, refs_of, plain_of, left_of};
 ghost use Rattle.world_model.specs.State.{Holds};
 ghost use Rattle.world_model.specs.LaneSteps.{is_lawful};
 ghost use Rattle.world_model.specs.Histories.{state_of, after, Legal};
@@ -23,9 +23,9 @@ use crate::shape::Shape;
 /// A world of objects, whichever way it is kept.
 ///
 /// An engine means two things: its history, which is legal after every call, and for each lane the
-/// references that its open frame holds. Every call but `lawful`, `kind_of`, `phase` and `left` adds to the
-/// history the entries of that call alone, the last of which carries its answer; so the conditions
-/// under which an entry may stand there are the causes of the answer. What a lane holds it holds
+/// references that its open frame holds. Every call but `lawful`, `kind_of`, `unit_of`, `member`, `phase` and `left` adds
+/// to the history the entries of that call alone, the last of which carries its answer; so the
+/// conditions under which an entry may stand there are the causes of the answer. What a lane holds it holds
 /// until it closes its frame.
 pub trait Engine<S: Shape> {
     /// All that was done, the first entry first.
@@ -81,6 +81,25 @@ pub trait Engine<S: Shape> {
         requires frame { IsInFrame S.sizes (history self.old) lane }
         requires at { holds self.old lane at }
         ensures kind { kind_of (after (history self.old)) at.name ≡ Some result }
+        ensures same { history self.new ≡ history self.old }
+        ensures held { KeepsHeld (holds self.old) (holds self.new) };
+
+    /// The first member of the unit of an object, by whose name the unit goes. A unit is a cluster
+    /// while it has several members; all of them live and die as one.
+    fn unit_of(&mut self, lane: u32, at: Ref) -> Name
+        requires frame { IsInFrame S.sizes (history self.old) lane }
+        requires at { holds self.old lane at }
+        ensures first { first_member (unit_of (after (history self.old)) at.name) ≡ Some result }
+        ensures same { history self.new ≡ history self.old }
+        ensures held { KeepsHeld (holds self.old) (holds self.new) };
+
+    /// The member number `k` of the unit of an object, in the order of their names, from 0; none where
+    /// it has no more than `k`. The object that is found is held from then on.
+    fn member(&mut self, lane: u32, at: Ref, k: u32) -> Option<Ref>
+        requires frame { IsInFrame S.sizes (history self.old) lane }
+        requires at { holds self.old lane at }
+        ensures member { name_of result ≡ slice_get (unit_of (after (history self.old)) at.name) k }
+        ensures given { IfSome result (holds self.new lane) }
         ensures same { history self.new ≡ history self.old }
         ensures held { KeepsHeld (holds self.old) (holds self.new) };
 
