@@ -6,6 +6,7 @@ use Rattle.std.specs.Str.{bytes_eq}
 use Rattle.std.specs.String.{string_eq}
 use Rattle.std.specs.declared.alloc.Global.{Global}
 use Rattle.std.proofs.lemmas.Bool.{cases_order, eqb-true, eqb-false, eq-eqb, ne_eqb, ltb-true, ltb-false, false_from_ne_true}
+use Rattle.std.proofs.lemmas.List.{length-map}
 use Rattle.std.proofs.lemmas.List.Elements.{All-weaker, All-head, All-tail, All-cons, All-nil, All-drop}
 use Rattle.std.proofs.lemmas.List.Folds.{Any-from_list_any, list_any_none, list_any_at}
 use Rattle.std.proofs.lemmas.List.Quantifiers.{position-Some}
@@ -140,6 +141,23 @@ module _ (keys : List (String Global)) (name : List ℕ) where
       go false is s =
           let l = ltb-false (position_or_len is_text keys) (length keys) is in
           list_any_none is_text keys (λ j d lt. fails_before_first is_text keys j d (omega arith))
+
+  -- a key that has the text is the one that is found
+  pub number_found : IsDistinct string_eq keys → (j : ℕ) → option_map string_bytes (slice_get keys j) ≡ Some name → position is_text keys ≡ Some j
+  number_found unique j at = go (position is_text keys) refl
+    where
+      seen : slice_get (texts keys) j ≡ Some name
+      seen = slice_get-map string_bytes keys j ∙ at
+
+      inside : j < length keys
+      inside = let lt = slice_get_within (texts keys) j name seen in let l = length-map keys string_bytes in omega arith
+
+      text : slice_index_or (texts keys) j [] ≡ name
+      text = get_or_from_slice_get (texts keys) j name [] seen
+
+      go : (o : Option ℕ) → position is_text keys ≡ o → position is_text keys ≡ Some j
+      go (Some k) e = e ∙ ap Some (one_number keys unique k j (name_at k e).0 inside ((name_at k e).1 ∙ sym text))
+      go None e = let yes : true ≡ false = sym (bytes_same name _ (sym text)) ∙ no_number e j inside in absurd cc
 
   -- ---- fields by name
 
