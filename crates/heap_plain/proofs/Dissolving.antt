@@ -55,10 +55,6 @@ module _ {z : Sizes} {p : Parts} {h : List Entry} {l : ℕ} {at : Ref} (was : Is
   stands : StandsAt p.objects (after h).units head u
   stands = root.stands was frame held
 
-  -- the members are different, so that there is a place for each
-  pub members_below : (k : ℕ) → k < count → chained p.next head k < item_count z
-  members_below k b = let r = linked_member p.names p.next head u stands.linked k (omega (arith, stands.size)) in omega (arith, name_below p.names (chained p.next head k) r.0 r.1, s.names.items)
-
   pub room : count ≤ 1024
   room = s.units.small head
 

@@ -29,6 +29,7 @@ pub mod UnitSteps
 pub mod MarkSlices
 pub mod GarbageSteps
 pub mod Handing
+pub mod Members
 pub mod StoreSteps
 pub mod StrongSteps
 pub mod PairSteps

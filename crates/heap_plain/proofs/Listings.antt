@@ -1,5 +1,5 @@
 -- Lists of linked indexes, as they are written.
-use Rattle.std.proofs.Common.{◌≡◌, ℕ, ◌+◌, ◌<◌, ◌≤◌, refl, sym, ap, ◌∙◌, subst, zero, suc, arith, add-one, Bool, cond, true, false, List, [], ◌∷◌, ◌++◌, append_assoc, append-nil, length, length-append, get_or, Option, Some}
+use Rattle.std.proofs.Common.{◌≡◌, ℕ, ◌+◌, ◌<◌, ◌≤◌, refl, sym, ap, ◌∙◌, subst, zero, suc, arith, add-one, Bool, cond, true, false, List, [], ◌∷◌, ◌++◌, append_assoc, append-nil, length, length-append, get_or, slice_get, Option, Some}
 use Rattle.world_model.specs.NameLists.{same_name, has}
 use Rattle.world_model.proofs.ListFacts.{or_right}
 use Rattle.world_model.proofs.NameFacts.{same_name_refl}
@@ -29,6 +29,12 @@ chain_next links i (suc count) = λ t. chain_next links i count t ++ chained_nex
 pub linked_named : (names : List (Option Name)) (links : List ℕ) (i : ℕ) (u : List Name) → AreLinked names links i u → AreNamed names (chain links i (length u)) u
 linked_named names links i [] h = tt
 linked_named names links i (n ∷ u) h = subst (λ (at : List ℕ). AreNamed names at (n ∷ u)) (sym (chain_next links i (length u))) (h.0, linked_named names links (next_at links i) u h.1)
+
+-- the names along the links of a unit are its members
+pub linked_name : (names : List (Option Name)) (links : List ℕ) (i : ℕ) (u : List Name) → AreLinked names links i u → (k : ℕ) → k < length u → name_at names (chained links i k) ≡ slice_get u k
+linked_name names links i [] h k b = absurd (omega arith)
+linked_name names links i (n ∷ u) h zero b = h.0
+linked_name names links i (n ∷ u) h (suc k) b = ap (name_at names) (chained_next links i k) ∙ linked_name names links (next_at links i) u h.1 k (omega arith)
 
 -- a member of a unit, along its links
 pub linked_member : (names : List (Option Name)) (links : List ℕ) (i : ℕ) (u : List Name) → AreLinked names links i u → (k : ℕ) → k < length u

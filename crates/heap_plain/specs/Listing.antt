@@ -1,5 +1,5 @@
--- Listing the members of removed units.
-use Rattle.std.specs.Prelude.{◌≡◌, ℕ, ◌+◌, ◌==◌, ◌<◌, ◌≤◌, ◌^◌, Bool, true, false, if◌then◌else◌, List, [], ◌∷◌, ◌++◌, length, get_or, zero, suc}
+-- Finding the members of units.
+use Rattle.std.specs.Prelude.{◌≡◌, ℕ, ◌+◌, ◌==◌, ◌<◌, ◌≤◌, ◌^◌, Bool, true, false, if◌then◌else◌, List, [], ◌∷◌, ◌++◌, length, get_or, zero, suc, nat_lt, Option, Some, None}
 use Rattle.heap_plain.specs.declared.life.Life.{Life}
 use Rattle.heap_plain.specs.declared.life.Life.TheVariants.{Removed}
 use Rattle.heap_plain.specs.Parts.{life_at, first_at, next_at}
@@ -13,6 +13,10 @@ chained links i (suc k) = next_at links (chained links i k)
 abbrev pub chain : List ℕ → ℕ → ℕ → List ℕ
 chain links i zero = []
 chain links i (suc count) = chain links i count ++ chained links i count ∷ []
+
+-- the index of the member number k of a unit of so many, if it has that
+abbrev pub member_at : List ℕ → ℕ → ℕ → ℕ → Option ℕ
+member_at links head size k = if nat_lt k size then Some (chained links head k) else None
 
 -- the first member of a removed unit is at the index
 abbrev pub begins : Life → ℕ → ℕ → Bool

@@ -12,7 +12,7 @@ use crate::creating::{answer, classify, decide, fill_popped, fill_rows, link, pl
 use crate::filled::{copy, fill, filled};
 use crate::gate::Gate;
 use crate::life::Life;
-use crate::listing::{list_unit, list_units};
+use crate::listing::{list_unit, list_units, member_at};
 use crate::marking::{is_done, may_end, may_start, named, starts, stop_of};
 use crate::pairing::{draws, given};
 use crate::parting::{MEMBERS, loosen};
@@ -214,6 +214,17 @@ impl<S: Shape> Engine<S> for PlainHeap<S> {
 
     fn kind_of(&mut self, _lane: u32, at: Ref) -> Kind {
         self.kinds[at.index as usize]
+    }
+
+    fn unit_of(&mut self, _lane: u32, at: Ref) -> Name {
+        let head = self.firsts[at.index as usize];
+        named(&self.names, head as usize)
+    }
+
+    fn member(&mut self, _lane: u32, at: Ref, k: u32) -> Option<Ref> {
+        let head = self.firsts[at.index as usize];
+        let size = self.sizes[head as usize];
+        referred(&self.names, member_at(&self.next, head, size, k))
     }
 
     fn read_ref(&mut self, lane: u32, at: Ref, slot: u32) -> Option<Ref> {

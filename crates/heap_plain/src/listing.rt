@@ -1,9 +1,9 @@
-//! Listing the members of units: of one that is taken apart, and of the removed ones, as a sweep
-//! finds their first members.
+//! Finding the members of units: one by its number, those of a unit that is taken apart, and those of
+//! the removed ones, as a sweep finds their first members.
 ghost use Rattle.std.specs.Prelude.{◌≡◌, ◌+◌, ◌<◌, ◌≤◌, [], ◌++◌, length, get_or, ℕ};
 ghost use Rattle.heap_plain.specs.Filling.{Filled};
 ghost use Rattle.heap_plain.specs.Parts.{life_at, first_at};
-ghost use Rattle.heap_plain.specs.Listing.{chained, chain, begins, units_at, CanList};
+ghost use Rattle.heap_plain.specs.Listing.{chained, chain, member_at, begins, units_at, CanList};
 
 use crate::life::Life;
 use crate::queue::Queue;
@@ -19,6 +19,23 @@ pub(crate) fn list_unit(next: &[u32], head: u32, count: usize, members: &mut [u3
         members[k] = index;
         index = next[index as usize];
     }
+}
+
+/// The index of the member number `k` of a unit of `size` members, of which the first is at `head`. It
+/// follows `k` links.
+pub(crate) fn member_at(next: &[u32], head: u32, size: u32, k: u32) -> Option<u32>
+    requires chain { (j : ℕ) → j < size → chained next.now head j < length next.now }
+    ensures { result ≡ member_at next.now head size k }
+{
+    if k >= size {
+        return None;
+    }
+    let mut index = head;
+    for j in 0..k {
+        let _ = j;
+        index = next[index as usize];
+    }
+    Some(index)
 }
 
 /// Whether the first member of a removed unit is at an index.

@@ -3,7 +3,8 @@ use Rattle.std.proofs.lemmas.List.{get_or_read}
 use Rattle.heap_plain.specs.Parts.{first_at}
 use Rattle.heap_plain.proofs.Resting.{keeps}
 use Rattle.heap_plain.proofs.RootSteps.{index_below, head_below}
-use Rattle.heap_plain.proofs.Dissolving.{starts, refused, members_below, room, last_named, last_listed, goes_on, parts, parts_held}
+use Rattle.heap_plain.proofs.Members.{links_below}
+use Rattle.heap_plain.proofs.Dissolving.{starts, refused, room, last_named, last_listed, goes_on, parts, parts_held}
 use Rattle.heap_plain.proofs.heap.PlainHeapEngine.dissolve.Goals as goal
 
 pub invariant_of-self : goal.invariant_of-self
@@ -43,7 +44,7 @@ list_unit-requires g c =
     let count : c.index-count.result.now ≡ get_or c.self.inside.sizes.items (first_at c.self.inside.firsts.items c.args.at.index) 0 =
     get_or_read c.self.inside.sizes.items _ _ (omega (arith, under, s.units.sizes_len)) (rw head at c.index-count.ensures) 0 in
     rw (c.deref.ensures.value, head, count) (record {
-      chain = λ k b. omega (arith, members_below c.self.invariant frame held c.requires.own k b, s.units.links_len);
+      chain = links_below c.self.invariant frame held;
       room = room c.self.invariant frame held c.requires.own;
     })
 
