@@ -40,116 +40,11 @@ use Rattle.level_script.specs.declared.operand.Frame.{Frame}
 use Rattle.level_script.specs.declared.operand.Frame.TheVariants as frame
 use Rattle.level_script.proofs.Framing.{ok_same, err_ok, some_same, any_place, length_push, short_enough, both, and_both, on_ok}
 
--- ---- places of names
-
--- where nothing passes, the first place is the end
-none_place : (p : List ℕ → Bool) (xs : List (List ℕ)) → list_any p xs ≡ false → position_or_len p xs ≡ length xs
-none_place p [] h = refl
-none_place p (x ∷ xs) h = go (p x) h (none_place p xs)
-  where
-    go : (b : Bool) → (b || list_any p xs) ≡ false → (list_any p xs ≡ false → position_or_len p xs ≡ length xs) → cond (not b) (1 + position_or_len p xs) 0 ≡ length (x ∷ xs)
-    go true h rest = absurd cc
-    go false h rest = let r = rest h in omega arith
-
--- where this is the first place, it is a place of the list or it is none
-at_place : (n k : ℕ) → n < k → cond (nat_lt n k) (Some n) None ≡ Some n
-at_place n k h = ap (λ b. cond b (Some n) None) (lt-ltb n k h)
-
-no_place : (n k : ℕ) → k ≤ n → cond (nat_lt n k) (Some n) None ≡ None
-no_place n k h = ap (λ b. cond b (Some n) None) (le-ltb n k h)
-
--- a first place stays it, where more stand behind
-place_stays : (p : List ℕ → Bool) (xs : List (List ℕ)) (y : List ℕ) → list_any p xs ≡ true → position_or_len p (xs ++ y ∷ []) ≡ position_or_len p xs
-place_stays p [] y h = absurd cc
-place_stays p (x ∷ xs) y h = go (p x) h (place_stays p xs y)
-  where
-    go : (b : Bool) → (b || list_any p xs) ≡ true → (list_any p xs ≡ true → position_or_len p (xs ++ y ∷ []) ≡ position_or_len p xs)
-        → cond (not b) (1 + position_or_len p (xs ++ y ∷ [])) 0 ≡ cond (not b) (1 + position_or_len p xs) 0
-    go true h rest = refl
-    go false h rest = ap (λ k. 1 + k) (rest h)
-
-place_last : (p : List ℕ → Bool) (xs : List (List ℕ)) (y : List ℕ) → list_any p xs ≡ false → p y ≡ true → position_or_len p (xs ++ y ∷ []) ≡ length xs
-place_last p [] y h own = go (p y) own
-  where
-    go : (b : Bool) → b ≡ true → cond (not b) (1 + 0) 0 ≡ 0
-    go true e = refl
-    go false e = absurd cc
-place_last p (x ∷ xs) y h own = go (p x) h (λ h. place_last p xs y h own)
-  where
-    go : (b : Bool) → (b || list_any p xs) ≡ false → (list_any p xs ≡ false → position_or_len p (xs ++ y ∷ []) ≡ length xs)
-        → cond (not b) (1 + position_or_len p (xs ++ y ∷ [])) 0 ≡ length (x ∷ xs)
-    go true h rest = absurd cc
-    go false h rest = let r = rest h in omega arith
-
--- a name that is put behind others is found there
-found_new : (names : List (List ℕ)) (var : List ℕ) → number_of_name (with_name names var) var ≡ Some (number_in names var)
-unfolding number_of_name with_name number_in
-found_new names var = go (list_any (bytes_eq var) names) refl
-  where
-    go : (b : Bool) → list_any (bytes_eq var) names ≡ b → position (bytes_eq var) (cond b names (names ++ var ∷ [])) ≡ Some (position_or_len (bytes_eq var) names)
-    go true e = at_place (position_or_len (bytes_eq var) names) (length names) (any_place (bytes_eq var) names e)
-    go false e =
-        let here : position_or_len (bytes_eq var) (names ++ var ∷ []) ≡ length names = place_last (bytes_eq var) names var e (bytes_same var var refl) in
-        let old : position_or_len (bytes_eq var) names ≡ length names = none_place (bytes_eq var) names e in
-        let more : length (names ++ var ∷ []) ≡ length names + 1 = length_push names var in
-        ap (λ k. cond (nat_lt k (length (names ++ var ∷ []))) (Some k) None) (here ∙ sym old)
-        ∙ at_place (position_or_len (bytes_eq var) names) (length (names ++ var ∷ [])) (omega arith)
-
--- and others are found where they were
-found_other : (names : List (List ℕ)) (var name : List ℕ) → bytes_eq name var ≡ false → number_of_name (with_name names var) name ≡ number_of_name names name
-unfolding number_of_name with_name
-found_other names var name other = go (list_any (bytes_eq var) names) (list_any (bytes_eq name) names) refl
-  where
-    n : ℕ
-    n = position_or_len (bytes_eq name) names
-
-    more : length (names ++ var ∷ []) ≡ length names + 1
-    more = length_push names var
-
-    go : (b there : Bool) → list_any (bytes_eq name) names ≡ there → position (bytes_eq name) (cond b names (names ++ var ∷ [])) ≡ position (bytes_eq name) names
-    go true there e = refl
-    go false true e =
-        let below = any_place (bytes_eq name) names e in
-        ap (λ k. cond (nat_lt k (length (names ++ var ∷ []))) (Some k) None) (place_stays (bytes_eq name) names var e)
-        ∙ at_place n (length (names ++ var ∷ [])) (omega (arith, below, more)) ∙ sym (at_place n (length names) below)
-    go false false e =
-        let none : list_any (bytes_eq name) (names ++ var ∷ []) ≡ false = list_any-append (bytes_eq name) names (var ∷ []) ∙ (rw (e, other) refl) in
-        let new = none_place (bytes_eq name) (names ++ var ∷ []) none in
-        let old = none_place (bytes_eq name) names e in
-        no_place (position_or_len (bytes_eq name) (names ++ var ∷ [])) (length (names ++ var ∷ [])) (omega (arith, new)) ∙ sym (no_place n (length names) (omega (arith, old)))
-
--- a name that is found is at its first place, which is none of another's
-other_place : (names : List (List ℕ)) (var name : List ℕ) (i : ℕ) → bytes_eq name var ≡ false → number_of_name names name ≡ Some i → (number_in names var == i) ≡ false
-unfolding number_of_name number_in
-other_place names var name i other e = false_from_ne_true _ (λ same. go (nat_lt n (length names)) refl e same)
-  where
-    n : ℕ
-    n = position_or_len (bytes_eq name) names
-
-    k : ℕ
-    k = position_or_len (bytes_eq var) names
-
-    go : (b : Bool) → nat_lt n (length names) ≡ b → cond b (Some n) None ≡ Some i → (k == i) ≡ true → ⊥
-    go false lt e same = absurd cc
-    go true lt e same =
-        let at : n ≡ i = some_same e in
-        let here : k ≡ i = eqb-true k i same in
-        let below : n < length names = ltb-true n (length names) lt in
-        let there : k < length names = omega arith in
-        let by_name : bytes_eq name (get_or names n []) ≡ true = passes_at_first (bytes_eq name) names [] below in
-        let by_var : bytes_eq var (get_or names k []) ≡ true = passes_at_first (bytes_eq var) names [] there in
-        let one : name ≡ get_or names i [] = same_bytes name (get_or names n []) by_name ∙ ap (λ (j : ℕ). get_or names j []) at in
-        let two : var ≡ get_or names i [] = same_bytes var (get_or names k []) by_var ∙ ap (λ (j : ℕ). get_or names j []) here in
-        both_ways (bytes_eq name var) other (bytes_same name var (one ∙ sym two))
-
 -- ---- numbers that are bound
 
 -- whether a name is bound
 abbrev is_bound : LaneNames → List ℕ → Bool
 is_bound lane name = is_some (bound_var lane name)
-
-eq_self : (k : ℕ) → (k == k) ≡ true
-eq_self k = eq-eqb k k refl
 
 has_new : (bound : List ℕ) (k : ℕ) → has_number (with_number bound k) k ≡ true
 has_new bound k = go (has_number bound k) refl
@@ -168,9 +63,6 @@ has_old bound k i other = go (has_number bound k)
         last : (b : Bool) → (b || (false || false)) ≡ b
         last true = refl
         last false = refl
-
-eq_flip : (i k : ℕ) → (k == i) ≡ false → (i == k) ≡ false
-eq_flip i k e = false_from_ne_true _ (λ same. both_ways (k == i) e (ap (λ (j : ℕ). k == j) (eqb-true i k same) ∙ eq_self k))
 
 -- a number that is there is bound where it is among those that are
 bound_some : (bound : List ℕ) (o : Option ℕ) (i : ℕ) → o ≡ Some i → is_some (if_bound bound o) ≡ has_number bound i

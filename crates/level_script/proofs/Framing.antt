@@ -57,94 +57,7 @@ use Rattle.level_script.specs.declared.said.FieldOf.{FieldOf}
 use Rattle.level_script.specs.declared.script.Script.{Script}
 use Rattle.level_script.specs.declared.tables.Tables.{Tables}
 
--- ---- answers
-
--- equal answers have equal values
-pub ok_same : {A E : Type 0} {a b : A} → ◌≡◌ {A = Result A E} (Ok a) (Ok b) → a ≡ b
-ok_same {A} {E} {a} {b} e = ap (λ (r : Result A E). elim r [ Ok x ↦ x | Err y ↦ a ]) e
-
--- a fault is no answer
-pub err_ok : {A E : Type 0} {P : Type 0} {a : A} {e : E} → ◌≡◌ {A = Result A E} (Err e) (Ok a) → P
-err_ok h = absurd (cc)
-
--- equal options have equal values
-pub some_same : {A : Type 0} {a b : A} → Some a ≡ Some b → a ≡ b
-some_same {A} {a} {b} e = ap (λ (o : Option A). elim o [ Some x ↦ x | None ↦ a ]) e
-
--- ---- places in lists
-
--- a choice that is there
-place_some : (b : Bool) (n i : ℕ) → cond b (Some n) None ≡ Some i → (b ≡ true) × (n ≡ i)
-place_some true n i e = (refl, some_same e)
-place_some false n i e = absurd (cc)
-
--- a position is a place of the list
-position_below : {X : Type 0} (p : X → Bool) (xs : List X) (i : ℕ) → position p xs ≡ Some i → i < length xs
-position_below p xs i e =
-    let h = place_some (nat_lt (position_or_len p xs) (length xs)) (position_or_len p xs) i e in
-    let below : position_or_len p xs < length xs = ltb-true _ _ h.0 in
-    let P : ℕ → Type 0 = λ n. n < length xs in
-    subst P h.1 below
-
--- one more item
-pub length_push : {X : Type 0} (xs : List X) (y : X) → length (xs ++ y ∷ []) ≡ length xs + 1
-length_push xs y = length-append xs (y ∷ [])
-
--- the names with one that may be new are no fewer
-name_grows : (b : Bool) (names : List (List ℕ)) (name : List ℕ) → length names ≤ length (cond b names (names ++ name ∷ []))
-name_grows true names name = omega arith
-name_grows false names name = omega (arith, length_push names name)
-
--- where an item passes, the first that does has a place
-pub any_place : (p : List ℕ → Bool) (xs : List (List ℕ)) → list_any p xs ≡ true → position_or_len p xs < length xs
-any_place p [] h = absurd (cc)
-any_place p (x ∷ xs) h = any_cons (p x) h (any_place p xs)
-  where
-    any_cons : (b : Bool) → (b || list_any p xs) ≡ true → (list_any p xs ≡ true → position_or_len p xs < length xs) → cond (not b) (1 + position_or_len p xs) 0 < length (x ∷ xs)
-    any_cons true h ih = omega arith
-    any_cons false h ih = omega (arith, ih h)
-
--- a name has a place once it is there
-name_place : (b : Bool) (names : List (List ℕ)) (name : List ℕ) → list_any (bytes_eq name) names ≡ b → position_or_len (bytes_eq name) names < length (cond b names (names ++ name ∷ []))
-name_place true names name e = any_place (bytes_eq name) names e
-name_place false names name e =
-    let most : position_or_len (bytes_eq name) names ≤ length names = prefix_len-le-length (λ x. not (bytes_eq name x)) names in
-    omega (arith, most, length_push names name)
-
--- names are never fewer
-pub names_grow : (names : List (List ℕ)) (name : List ℕ) → length names ≤ length (with_name names name)
-unfolding with_name
-names_grow names name = name_grows (list_any (bytes_eq name) names) names name
-
--- the number of a name is below the number of names
-pub number_below : (names : List (List ℕ)) (name : List ℕ) → number_in names name < length (with_name names name)
-unfolding with_name number_in
-number_below names name = name_place (list_any (bytes_eq name) names) names name refl
-
--- so is the number of a name that is there
-pub found_below : (names : List (List ℕ)) (name : List ℕ) (i : ℕ) → number_of_name names name ≡ Some i → i < length names
-unfolding number_of_name
-found_below names name i e = position_below (bytes_eq name) names i e
-
--- the place of an id
-class_of_place : (o : Option ℕ) (id : ClassId) → option_map id_of o ≡ Some id → o ≡ Some id.0
-class_of_place None id e = absurd (cc)
-class_of_place (Some i) id e = ap (λ (c : ClassId). Some c.0) (some_same e)
-
--- the id of a class is below the number of classes
-pub class_below : (classes : List Class) (name : List ℕ) (id : ClassId) → find_class classes name ≡ Some id → id.0 < length classes
-unfolding find_class
-class_below classes name id e = position_below (is_named name) classes id.0 (class_of_place (position (is_named name) classes) id e)
-
 -- ---- a step of a lane
-
--- what is below is below more
-below_true : (m n k : ℕ) → m < n → n ≤ k → nat_lt m k ≡ true
-below_true m n k h most = lt-ltb m k (omega (arith, h, most))
-
--- two tests that hold
-pub and_both : (a b : Bool) → a ≡ true → b ≡ true → (a && b) ≡ true
-and_both a b e f = (λ t. e t && f t)
 
 -- what a step of a lane does to its frame and its variables, and that its command fits
 record StepFacts (t : Tables) (lane left : LaneNames) (what : Does) (command : LaneCmd) : Type 0 where
@@ -405,11 +318,6 @@ through_more : (frames : List Bool) (lines : List Line) (line : Line) → frames
 unfolding frames_through
 through_more frames [] line = refl
 through_more frames (l ∷ lines) line = through_more (frames_after frames l.cmd) lines line
-
--- two tests that hold together
-pub both : (a b : Bool) → (a && b) ≡ true → (a ≡ true) × (b ≡ true)
-both true b h = (refl, h)
-both false b h = absurd (cc)
 
 -- one more line that fits
 framed_more : (vars : List ℕ) (classes fields : ℕ) (frames : List Bool) (lines : List Line) (line : Line)

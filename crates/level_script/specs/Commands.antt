@@ -3,6 +3,7 @@ use Rattle.std.specs.Prelude.{ℕ, Bool, true, false, List, [], ◌∷◌, codes
 use Rattle.std.specs.Str.{bytes_eq, is_utf8}
 use Rattle.level_script.specs.Lines.{line_words, is_none}
 use Rattle.level_script.specs.Forms.{identifier_of, variable_of, is_digits, number_of, is_comment}
+use Rattle.level_script.specs.Members.{members_of}
 use Rattle.level_script.specs.LaneCommands.{verb_of, tail_of}
 use Rattle.level_script.specs.Operands.{operand_of}
 use Rattle.level_script.specs.declared.cause.Cause.{Cause}
@@ -149,6 +150,10 @@ abbrev pub does_binds : Verb → (List ℕ → Binds) → Form → Option (List 
 does_binds verb binds form None = None
 does_binds verb binds form (Some (var, first)) = does_bound verb (option_map binds (variable_of var)) (operand_of form first)
 
+-- a command that binds the variables of members
+abbrev pub does_members : Verb → Option (List (List ℕ × List ℕ)) → Option Does
+does_members verb members = option_map (λ ms. record { verb = verb; binds = binds.Members ms; first = operand.Nothing; second = operand.Nothing }) members
+
 -- what a lane does by a command, if the words behind it are those that follow it
 abbrev pub does_of : Verb → Tail → List (List ℕ) → Option Does
 does_of verb tail.Alone words = if is_none words then Some (does_alone verb) else None
@@ -156,6 +161,7 @@ does_of verb (tail.One form) words = does_one verb form (only_of words)
 does_of verb (tail.Two one two) words = does_two verb one two (pair_of words)
 does_of verb (tail.Binds form) words = does_binds verb binds.Var form (pair_of words)
 does_of verb (tail.BindsWeak form) words = does_binds verb binds.Weak form (pair_of words)
+does_of verb tail.Members words = does_members verb (members_of words)
 
 -- other words are a fault
 abbrev pub or_words : Option Does → Result Does Cause

@@ -99,6 +99,7 @@ abbrev pub more_weaks : Binds → List (List ℕ) → List (List ℕ)
 more_weaks binds.Nothing weaks = weaks
 more_weaks (binds.Var var) weaks = weaks
 more_weaks (binds.Weak weak) weaks = with_name weaks weak
+more_weaks (binds.Members members) weaks = weaks
 
 -- the tables after it
 abbrev pub with_weak : Binds → Tables → Tables

@@ -60,6 +60,7 @@ abbrev pub is_bound_by : List ℕ → Binds → Bool
 is_bound_by name binds.Nothing = false
 is_bound_by name (binds.Var var) = bytes_eq name var
 is_bound_by name (binds.Weak weak) = false
+is_bound_by name (binds.Members members) = list_any (λ m. bytes_eq name m.0) members
 
 abbrev pub binds_name : List ℕ → Does → Bool
 binds_name name what = is_bound_by name what.binds
@@ -97,6 +98,7 @@ abbrev pub is_weak_by : List ℕ → Binds → Bool
 is_weak_by name binds.Nothing = false
 is_weak_by name (binds.Var var) = false
 is_weak_by name (binds.Weak weak) = bytes_eq name weak
+is_weak_by name (binds.Members members) = false
 
 -- a line by which some lane does so
 abbrev pub says_weak : List ℕ → Result Said Cause → Bool

@@ -84,3 +84,20 @@ spot_behind (Some var) (b ∷ bs) = if b == 46 then placed var (identifier_of (f
 -- a spot: `V.F`, or `V.F[I]`
 abbrev pub spot_of : List ℕ → Option Place
 spot_of word = spot_behind (variable_of (front word)) (behind word)
+
+-- ---- members of clusters
+
+-- a variable and a class, if both are there
+abbrev pub both_named : List ℕ → Option (List ℕ) → Option (List ℕ × List ℕ)
+both_named var None = None
+both_named var (Some class) = Some (var, class)
+
+-- behind the variable stands a colon, then a class
+abbrev pub member_behind : Option (List ℕ) → List ℕ → Option (List ℕ × List ℕ)
+member_behind None rest = None
+member_behind (Some var) [] = None
+member_behind (Some var) (b ∷ bs) = if b == 58 then both_named var (identifier_of bs) else None
+
+-- a member of a cluster: `V:CLASS`
+abbrev pub member_of : List ℕ → Option (List ℕ × List ℕ)
+member_of word = member_behind (variable_of (front word)) (behind word)

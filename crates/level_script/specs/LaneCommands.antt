@@ -1,7 +1,7 @@
 -- The commands of a lane: all that is said of one command.
 use Rattle.std.specs.Prelude.{ℕ, Bool, List, [], ◌∷◌, codes, Option, Some, None, option_map, if◌then◌else◌}
 use Rattle.std.specs.Str.{bytes_eq}
-use Rattle.level_script.specs.Operands.{var_known, target_known, class_known, spot_known, switch_known, value_known, strong_known, index_known, weak_known, weak_target_known}
+use Rattle.level_script.specs.Operands.{var_known, target_known, class_known, spot_known, switch_known, value_known, strong_known, index_known, weak_known, weak_target_known, members_known}
 use Rattle.level_script.specs.declared.lane_cmd.LaneCmd.{LaneCmd}
 use Rattle.level_script.specs.declared.lane_cmd.LaneCmd.TheVariants as lane_cmd
 use Rattle.level_script.specs.declared.lane_cmd.Verb.{Verb}
@@ -35,6 +35,7 @@ verb_of word =
     if bytes_eq word (codes "open") then Some verb.Open
     else if bytes_eq word (codes "close") then Some verb.Close
     else if bytes_eq word (codes "new") then Some verb.New
+    else if bytes_eq word (codes "cluster") then Some verb.Cluster
     else if bytes_eq word (codes "root") then Some verb.Root
     else if bytes_eq word (codes "set") then Some verb.Set
     else if bytes_eq word (codes "get") then Some verb.Get
@@ -43,12 +44,13 @@ verb_of word =
     else if bytes_eq word (codes "print") then Some verb.Print
     else pointer_verb_of word
 
--- what words follow: `new V CLASS`, `root V on` and `root V off`, `set SPOT V` and `set SPOT none`, `get V SPOT`, `put SPOT N`, `take SPOT`, `print V`,
+-- what words follow: `new V CLASS`, `cluster V:CLASS ...`, `root V on` and `root V off`, `set SPOT V` and `set SPOT none`, `get V SPOT`, `put SPOT N`, `take SPOT`, `print V`,
 -- `store SPOT W` and `store SPOT none`, `load W SPOT`, `hold H V` and `hold H none`, `held V H`, `weak W V`, `resolve V W`, `forge W N`, `same W W2`
 abbrev pub tail_of : Verb → Tail
 tail_of verb.Open = tail.Alone
 tail_of verb.Close = tail.Alone
 tail_of verb.New = tail.Binds form.Class
+tail_of verb.Cluster = tail.Members
 tail_of verb.Root = tail.Two form.Var form.Switch
 tail_of verb.Set = tail.Two form.Spot form.Target
 tail_of verb.Get = tail.Binds form.Spot
@@ -92,11 +94,12 @@ pointer_command_of verb.Forge binds first second = of_both lane_cmd.Forge (weak_
 pointer_command_of verb.Same binds first second = of_both lane_cmd.Same (weak_known first) (weak_known second)
 pointer_command_of _ binds first second = None
 
--- the command where the words stand for these things: the variable that it binds, and what the words behind that name
+-- the command where the words stand for these things: the variable or the members that it binds, and what the words behind that name
 abbrev pub command_of : Verb → Known → Known → Known → Option LaneCmd
 command_of verb.Open binds first second = Some lane_cmd.Open
 command_of verb.Close binds first second = Some lane_cmd.Close
 command_of verb.New binds first second = of_both lane_cmd.New (var_known binds) (class_known first)
+command_of verb.Cluster binds first second = option_map lane_cmd.Cluster (members_known binds)
 command_of verb.Root binds first second = of_both lane_cmd.Root (var_known first) (switch_known second)
 command_of verb.Set binds first second = of_both lane_cmd.Set (spot_known first) (target_known second)
 command_of verb.Get binds first second = of_both lane_cmd.Get (var_known binds) (spot_known first)
@@ -118,6 +121,7 @@ abbrev pub named_by : LaneCmd → List Known
 named_by lane_cmd.Open = []
 named_by lane_cmd.Close = []
 named_by (lane_cmd.New var class) = known.Var var ∷ known.Class class ∷ []
+named_by (lane_cmd.Cluster members) = known.Members members ∷ []
 named_by (lane_cmd.Root var on) = known.Var var ∷ []
 named_by (lane_cmd.Set spot to) = known.Spot spot ∷ known.Target to ∷ []
 named_by (lane_cmd.Get var spot) = known.Var var ∷ known.Spot spot ∷ []

@@ -5,6 +5,7 @@ pub mod Frames
 pub mod LaneCommands
 pub mod Lanes
 pub mod Lines
+pub mod Members
 pub mod Names
 pub mod Operands
 pub mod Reading

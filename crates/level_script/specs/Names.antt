@@ -1,5 +1,5 @@
 -- The variables of a lane, as lists of names and of numbers.
-use Rattle.std.specs.Prelude.{◌≡◌, ℕ, ◌==◌, ◌≤◌, Bool, List, [], ◌∷◌, ◌++◌, Option, position, slice_index_or, if◌then◌else◌}
+use Rattle.std.specs.Prelude.{◌≡◌, ℕ, ◌==◌, ◌≤◌, Bool, true, not, ◌&&◌, List, [], ◌∷◌, ◌++◌, Option, position, slice_index_or, if◌then◌else◌}
 use Rattle.std.specs.List.{list_any, position_or_len}
 use Rattle.std.specs.Str.{bytes_eq}
 
@@ -22,6 +22,11 @@ has_number numbers number = list_any (λ n. number == n) numbers
 -- the numbers with one that may be new
 abbrev pub with_number : List ℕ → ℕ → List ℕ
 with_number numbers number = if has_number numbers number then numbers else numbers ++ number ∷ []
+
+-- no two of them are the same
+abbrev pub all_differ : {A : Type 0} → (A → A → Bool) → List A → Bool
+all_differ same [] = true
+all_differ same (x ∷ xs) = not (list_any (same x) xs) && all_differ same xs
 
 -- ---- rounds, which tell for each number when it came last
 

@@ -1,8 +1,11 @@
 -- The words behind the word of a lane's command: their forms, what they say, and what that stands for.
-use Rattle.std.specs.Prelude.{◌<◌, ℕ, nat_lt, Bool, true, false, not, ◌&&◌, List, [], ◌∷◌, codes, Option, Some, None, option_map, if◌then◌else◌}
+use Rattle.std.specs.Prelude.{◌<◌, ℕ, ◌==◌, nat_lt, nat_le, Bool, true, false, not, ◌&&◌, List, [], ◌∷◌, map, length, codes, Option, Some, None, option_map, if◌then◌else◌}
+use Rattle.std.specs.List.{list_all}
 use Rattle.std.specs.Str.{bytes_eq}
 use Rattle.world_model.specs.declared.kind.ClassId.{ClassId}
 use Rattle.level_script.specs.Forms.{identifier_of, variable_of, is_digits, number_of, spot_of}
+use Rattle.level_script.specs.Names.{all_differ}
+use Rattle.level_script.specs.declared.lane_cmd.Member.{Member}
 use Rattle.level_script.specs.declared.operand.Frame.{Frame}
 use Rattle.level_script.specs.declared.operand.Frame.TheVariants as frame
 use Rattle.level_script.specs.declared.operand.Form.{Form}
@@ -128,6 +131,10 @@ abbrev pub weak_target_known : Known → Option (Option ℕ)
 weak_target_known (known.WeakTarget to) = Some to
 weak_target_known _ = None
 
+abbrev pub members_known : Known → Option (List Member)
+members_known (known.Members members) = Some members
+members_known _ = None
+
 -- an element of one of so many variables, in a field with one of so many names
 abbrev pub fits_spot : ℕ → ℕ → Spot → Bool
 fits_spot vars fields spot = nat_lt spot.var vars && nat_lt spot.field fields
@@ -137,12 +144,26 @@ abbrev pub fits_target : ℕ → Option ℕ → Bool
 fits_target vars None = true
 fits_target vars (Some var) = nat_lt var vars
 
+-- a member with one of so many variables, of one of so many classes
+abbrev pub fits_member : ℕ → ℕ → Member → Bool
+fits_member vars classes member = nat_lt member.var vars && nat_lt member.class.0 classes
+
+-- the variables of members
+abbrev pub vars_of : List Member → List ℕ
+vars_of members = map (λ m. m.var) members
+
+-- the members of a cluster: they are 1 to 1,024, and no two have one variable
+abbrev pub fits_members : ℕ → ℕ → List Member → Bool
+fits_members vars classes members =
+    nat_le 1 (length members) && nat_le (length members) 1024 && list_all (fits_member vars classes) members && all_differ (λ a b. a == b) (vars_of members)
+
 -- it is there, where there are so many variables, classes and names of fields
 abbrev pub fits_known : ℕ → ℕ → ℕ → Known → Bool
 fits_known vars classes fields (known.Var var) = nat_lt var vars
 fits_known vars classes fields (known.Target to) = fits_target vars to
 fits_known vars classes fields (known.Class class) = nat_lt class.0 classes
 fits_known vars classes fields (known.Spot spot) = fits_spot vars fields spot
+fits_known vars classes fields (known.Members members) = fits_members vars classes members
 fits_known vars classes fields _ = true
 
 -- the same of weak variables, which the whole script has, and of the strong pointers of a lane

@@ -1,7 +1,8 @@
 //! The words of a line, one level of the grammar a function: lines of the header and of the collector, and parts of lines of lanes.
 ghost use Rattle.std.specs.Prelude.{◌≡◌, MatchOption, Some, None};
 ghost use Rattle.level_script.specs.Lines.{line_words};
-ghost use Rattle.level_script.specs.Commands.{pair_of, only_of, class_line, count_of, field_of, two_names, field_line, collector_line, does_one, does_two, does_binds, does_of};
+ghost use Rattle.level_script.specs.Commands.{pair_of, only_of, class_line, count_of, field_of, two_names, field_line, collector_line, does_one, does_two, does_binds, does_members, does_of};
+ghost use Rattle.level_script.specs.Members.{members_of};
 ghost use Rattle.level_script.specs.LaneCommands.{tail_of};
 ghost use Rattle.level_script.specs.declared.operand.Binds.TheVariants as binds;
 
@@ -9,6 +10,7 @@ use crate::cause::Cause;
 use crate::forms::{Identifier, Number, is_digits, read_identifier, read_number, read_variable};
 use crate::lane_cmd::{Verb, tail_of};
 use crate::lines::{first_word, is_over};
+use crate::members::read_members;
 use crate::operand::{Binds, Form, Operand, Tail, read_operand};
 use crate::said::{Does, FieldOf, Said};
 
@@ -192,6 +194,19 @@ fn binding_weak<'a>(verb: Verb, form: Form, rest: &'a [u8]) -> Option<Does<'a>>
     })
 }
 
+/// A command with the members of a cluster behind it.
+fn members<'a>(verb: Verb, rest: &'a [u8]) -> Option<Does<'a>>
+    ensures { result ≡ does_members verb (members_of (line_words rest.now)) }
+{
+    let words = read_members(rest)?;
+    Some(Does {
+        verb,
+        binds: Binds::Members(words),
+        first: Operand::Nothing,
+        second: Operand::Nothing,
+    })
+}
+
 /// What a lane does by a command, where the words behind it are those that follow it.
 pub fn read_does<'a>(verb: Verb, rest: &'a [u8]) -> Option<Does<'a>>
     ensures { result ≡ does_of verb (tail_of verb) (line_words rest.now) }
@@ -213,5 +228,6 @@ pub fn read_does<'a>(verb: Verb, rest: &'a [u8]) -> Option<Does<'a>>
         Tail::Two(first, second) => two(verb, first, second, rest),
         Tail::Binds(form) => binding(verb, form, rest),
         Tail::BindsWeak(form) => binding_weak(verb, form, rest),
+        Tail::Members => members(verb, rest),
     }
 }

@@ -1,14 +1,13 @@
 //! What the lines so far have made known, and what one more line adds.
 ghost use Rattle.std.specs.Prelude.{◌≡◌, ◌≤◌, length, IsTrue, IfOk, IfSome, Ok};
 ghost use Rattle.class_schema.specs.Lawful.{has_target};
-ghost use Rattle.level_script.specs.Context.{AreLawful, start, with_line, after_class, elements_in, kind_found, with_named, with_tables, with_weak, after_field, after_lane_line, after_said, Takes, script_from};
+ghost use Rattle.level_script.specs.Context.{AreLawful, start, with_line, after_class, elements_in, kind_found, with_named, after_field, after_lane_line, after_said, Takes, script_from};
 
 use crate::cause::{Cause, Stop};
 use crate::forms::{Identifier, Number};
 use crate::lanes::Lanes;
 use crate::limits::Limits;
 use crate::names::NameTable;
-use crate::operand::Binds;
 use crate::said::{Does, FieldOf, Said};
 use crate::script::{Cmd, FieldNames, GcCmd, Line, Lines, Script};
 use crate::tables::Tables;
@@ -150,19 +149,6 @@ impl Context {
         }
     }
 
-    /// Binds a weak variable.
-    fn bind_weak(&mut self, binds: &Binds<'_>) -> Result<(), Stop>
-        ensures { Takes (Ok (with_tables self.old (with_weak binds.now self.old.tables))) self.new result }
-    {
-        let Binds::Weak(name) = binds else {
-            return Ok(());
-        };
-        match self.tables.weaks.add(name.as_str()) {
-            Ok(_) => Ok(()),
-            Err(_) => Err(Stop::Memory),
-        }
-    }
-
     /// A line of a lane.
     pub fn lane_line(&mut self, number: u32, lane: &Number, does: &Does<'_>) -> Result<(), Stop>
         ensures { Takes (after_lane_line number self.old lane.now does.now) self.new result }
@@ -170,8 +156,7 @@ impl Context {
         let Some(lane) = self.lanes.find(lane) else {
             return Err(Stop::Faulty(Cause::Number));
         };
-        let cmd = self.lanes.step(lane, &self.tables, does)?;
-        self.bind_weak(&does.binds)?;
+        let cmd = self.lanes.step(lane, &mut self.tables, does)?;
         self.push(number, Cmd::Lane(lane, cmd))
     }
 

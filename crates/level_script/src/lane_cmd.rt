@@ -6,12 +6,23 @@ ghost use Rattle.level_script.specs.LaneCommands.{verb_of, pointer_verb_of, tail
 
 use crate::operand::{Form, Frame, Known, Tail};
 use crate::script::Spot;
-use world_model::ClassId;
+use world_model::{ClassId, Sequence};
+
+/// A member of a cluster.
+#[derive(Clone, Copy, Debug, PartialEq, Eq)]
+pub struct Member {
+    /// The variable that stands for it.
+    pub var: u32,
+    pub class: ClassId,
+}
+
+/// The members of a cluster, in order.
+pub type Members = Sequence<Member>;
 
 /// What a lane does. Variables are numbers of the lane's object variables, from 0 in the order in
 /// which the lane's lines mention them first. Weak variables are those of the whole script, numbered
 /// from 0 in the order in which lines bind them first.
-#[derive(Clone, Copy, Debug, PartialEq, Eq)]
+#[derive(Clone, Debug, Drop, PartialEq, Eq)]
 pub enum LaneCmd {
     /// The lane opens its frame.
     Open,
@@ -19,6 +30,9 @@ pub enum LaneCmd {
     Close,
     /// The lane makes an object of a class, for which the variable then stands.
     New { var: u32, class: ClassId },
+    /// The lane makes a cluster of 1 to 1,024 objects, for each of which its member's variable then
+    /// stands. No two members have one variable.
+    Cluster { members: Members },
     /// The object of the variable becomes a root, or is one no longer.
     Root { var: u32, on: bool },
     /// A reference to the object of a variable, or to none, is stored in an element.
@@ -55,6 +69,7 @@ pub enum Verb {
     Open,
     Close,
     New,
+    Cluster,
     Root,
     Set,
     Get,
@@ -81,6 +96,8 @@ pub fn verb_of(word: &[u8]) -> Option<Verb>
         Some(Verb::Close)
     } else if word == b"new".as_slice() {
         Some(Verb::New)
+    } else if word == b"cluster".as_slice() {
+        Some(Verb::Cluster)
     } else if word == b"root".as_slice() {
         Some(Verb::Root)
     } else if word == b"set".as_slice() {
@@ -131,6 +148,7 @@ pub fn tail_of(verb: Verb) -> Tail
         Verb::Open => Tail::Alone,
         Verb::Close => Tail::Alone,
         Verb::New => Tail::Binds(Form::Class),
+        Verb::Cluster => Tail::Members,
         Verb::Root => Tail::Two(Form::Var, Form::Switch),
         Verb::Set => Tail::Two(Form::Spot, Form::Target),
         Verb::Get => Tail::Binds(Form::Spot),
@@ -173,6 +191,10 @@ pub fn command_of(verb: Verb, binds: Known, first: Known, second: Known) -> Opti
             let var = binds.var()?;
             let class = first.class()?;
             Some(LaneCmd::New { var, class })
+        }
+        Verb::Cluster => {
+            let members = binds.members()?;
+            Some(LaneCmd::Cluster { members })
         }
         Verb::Root => {
             let var = first.var()?;

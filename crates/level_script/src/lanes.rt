@@ -1,6 +1,8 @@
 //! The lanes of a script, as far as it has been read.
 ghost use Rattle.std.specs.Prelude.{◌≡◌, ◌<◌, ◌≤◌, length, map, replicate, IfOk, OnOk, Some, slice_get};
-ghost use Rattle.level_script.specs.Lanes.{closed_lane, bound_var, spot_found, bound_target, weak_target, known_of, known_bound, command_found, with_frame, with_bound, lane_step, lane_index, Steps, StepsAt, count_of};
+ghost use Rattle.level_script.specs.Names.{number_in};
+ghost use Rattle.level_script.specs.Context.{with_weak};
+ghost use Rattle.level_script.specs.Lanes.{closed_lane, bound_var, spot_found, bound_target, weak_target, known_of, known_bound, operands_known, with_command, with_frame, with_var, with_bound, lane_step, lane_index, Steps, StepsAt, count_of};
 
 use crate::cause::{Cause, Stop};
 use crate::forms::{Identifier, Number};
@@ -101,29 +103,13 @@ impl LaneNames {
         }
     }
 
-    /// The number of the variable that is bound.
-    fn known_bound(&self, tables: &Tables, binds: &Binds<'_>) -> Known
-        ensures { result ≡ known_bound tables.now self.now binds.now }
-    {
-        match binds {
-            Binds::Nothing => Known::Nothing,
-            Binds::Var(name) => Known::Var(self.names.number_for(name.as_str())),
-            Binds::Weak(name) => Known::Weak(tables.weaks.number_for(name.as_str())),
-        }
-    }
-
-    /// The command that a line of the lane is, if all names are known.
-    fn command(&self, tables: &Tables, does: &Does<'_>) -> Option<LaneCmd>
-        ensures { result ≡ command_found tables.now self.now does.now }
+    /// What the words stand for, but for those that are bound, if all names are known.
+    fn operands(&self, tables: &Tables, does: &Does<'_>) -> Option<(Known, Known)>
+        ensures { result ≡ operands_known (known_of tables.now self.now does.now.first) (known_of tables.now self.now does.now.second) }
     {
         let first = self.known(tables, &does.first)?;
         let second = self.known(tables, &does.second)?;
-        command_of(
-            does.verb,
-            self.known_bound(tables, &does.binds),
-            first,
-            second,
-        )
+        Some((first, second))
     }
 
     /// Opens or closes the frame; a close ends the variables.
@@ -141,21 +127,49 @@ impl LaneNames {
         }
     }
 
-    /// Binds a variable.
-    fn bind(&mut self, binds: &Binds<'_>) -> Result<(), AllocError>
-        ensures { OnOk result (self.new ≡ with_bound binds.now self.old) }
+    /// Binds a variable, and gives its number.
+    pub fn bind_var(&mut self, name: &str) -> Result<u32, AllocError>
+        ensures number { IfOk result (λ number. number ≡ number_in self.old.names name.now) }
+        ensures bound { OnOk result (self.new ≡ with_var name.now self.old) }
     {
-        let Binds::Var(name) = binds else {
-            return Ok(());
-        };
-        let var = self.names.add(name.as_str())?;
-        self.bound.add(var)?;
-        Ok(())
+        let number = self.names.add(name)?;
+        self.bound.add(number)?;
+        Ok(number)
     }
 
-    /// Does what a line of the lane says.
-    fn step(&mut self, tables: &Tables, does: &Does<'_>) -> Result<LaneCmd, Stop>
-        ensures { Steps (lane_step tables.now self.old does.now) self.new result }
+    /// Binds what a line binds, and tells what that is. After an error nothing is said of the lane.
+    fn bind(
+        &mut self,
+        tables: &mut Tables,
+        seen: &mut NumberSet,
+        binds: &Binds<'_>,
+    ) -> Result<Known, Stop>
+        ensures lane { Steps (with_command (with_bound binds.now self.old) (known_bound tables.old self.old binds.now)) self.new result }
+        ensures tables { OnOk result (tables.new ≡ with_weak binds.now tables.old) }
+    {
+        match binds {
+            Binds::Nothing => Ok(Known::Nothing),
+            Binds::Var(name) => match self.bind_var(name.as_str()) {
+                Ok(var) => Ok(Known::Var(var)),
+                Err(_) => Err(Stop::Memory),
+            },
+            Binds::Weak(name) => match tables.weaks.add(name.as_str()) {
+                Ok(weak) => Ok(Known::Weak(weak)),
+                Err(_) => Err(Stop::Memory),
+            },
+            Binds::Members(words) => self.bind_members(&tables.classes, seen, words),
+        }
+    }
+
+    /// Does what a line of the lane says. After an error nothing is said of the lane.
+    fn step(
+        &mut self,
+        tables: &mut Tables,
+        seen: &mut NumberSet,
+        does: &Does<'_>,
+    ) -> Result<LaneCmd, Stop>
+        ensures lane { Steps (lane_step tables.old self.old does.now) self.new result }
+        ensures tables { OnOk result (tables.new ≡ with_weak does.now.binds tables.old) }
     {
         if !(does.first.is_in_range(tables.strong) && does.second.is_in_range(tables.strong)) {
             return Err(Stop::Faulty(Cause::Number));
@@ -164,13 +178,14 @@ impl LaneNames {
         if !frame.allows(self.opened) {
             return Err(Stop::Faulty(Cause::Frame));
         }
-        let Some(cmd) = self.command(tables, does) else {
+        let Some((first, second)) = self.operands(tables, does) else {
             return Err(Stop::Faulty(Cause::UnknownName));
         };
         self.enter(frame);
-        match self.bind(&does.binds) {
-            Ok(()) => Ok(cmd),
-            Err(_) => Err(Stop::Memory),
+        let bound = self.bind(tables, seen, &does.binds)?;
+        match command_of(does.verb, bound, first, second) {
+            Some(cmd) => Ok(cmd),
+            None => Err(Stop::Faulty(Cause::UnknownName)),
         }
     }
 
@@ -186,6 +201,8 @@ impl LaneNames {
 #[derive(Drop)]
 pub struct Lanes {
     items: Vec<LaneNames>,
+    /// The variables of the members of one line, by which a variable that stands twice is found.
+    seen: NumberSet,
 }
 
 impl Model for Lanes {
@@ -209,7 +226,10 @@ impl Lanes {
         for _ in 0..count {
             items.push(LaneNames::new(alloc))?;
         }
-        Ok(Lanes { items })
+        Ok(Lanes {
+            items,
+            seen: NumberSet::new(alloc),
+        })
     }
 
     /// The lane that a number names.
@@ -223,12 +243,13 @@ impl Lanes {
     }
 
     /// Does what a line of a lane says.
-    pub fn step(&mut self, lane: u32, tables: &Tables, does: &Does<'_>) -> Result<LaneCmd, Stop>
+    pub fn step(&mut self, lane: u32, tables: &mut Tables, does: &Does<'_>) -> Result<LaneCmd, Stop>
         requires { lane < length self.old }
-        ensures { StepsAt tables.now self.old lane does.now self.new result }
+        ensures lane { StepsAt tables.old self.old lane does.now self.new result }
+        ensures tables { OnOk result (tables.new ≡ with_weak does.now.binds tables.old) }
     {
         let lane = &mut self.items[lane as usize];
-        lane.step(tables, does)
+        lane.step(tables, &mut self.seen, does)
     }
 
     /// How many object variables each lane has.

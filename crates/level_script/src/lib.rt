@@ -22,6 +22,7 @@ mod lanes;
 pub mod laws;
 mod limits;
 mod lines;
+mod members;
 mod names;
 mod one_line;
 mod operand;
@@ -33,7 +34,7 @@ mod tables;
 
 pub use cause::{Cause, ParseErr, ScriptErr};
 pub use class_schema::{AddErr, ClassTable, Field, FieldKind, SchemaErr};
-pub use lane_cmd::LaneCmd;
+pub use lane_cmd::{LaneCmd, Member, Members};
 pub use limits::Limits;
 pub use reader::parse;
 pub use script::{Cmd, Counts, FieldNames, GcCmd, Line, Lines, Script, Spot};

@@ -125,16 +125,6 @@ impl NameTable {
         }
     }
 
-    /// The number that a name has once it is there.
-    pub fn number_for(&self, name: &str) -> u32
-        ensures { result ≡ number_in self.now name.now }
-    {
-        match self.find(name) {
-            Some(number) => number,
-            None => self.count(),
-        }
-    }
-
     /// The name with a number.
     pub fn get(&self, number: u32) -> Option<&str>
         ensures { MatchOption result (slice_get self.now number ≡ None) (λ name. slice_get self.now number ≡ Some name.now) }
@@ -217,6 +207,11 @@ impl NumberSet {
             rounds: Vec::new(alloc),
             round: 1,
         }
+    }
+
+    /// The allocator that the numbers are on.
+    pub fn alloc(&self) -> Global {
+        self.alloc
     }
 
     /// Whether a number is there.

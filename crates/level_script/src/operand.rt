@@ -1,8 +1,10 @@
 //! The words behind the word of a lane's command: their forms, what they say, and what that stands for.
 ghost use Rattle.std.specs.Prelude.{◌≡◌};
-ghost use Rattle.level_script.specs.Operands.{allows, switch_of, target_of, digits_of, operand_of, below, element_in, is_in_range, var_known, target_known, class_known, spot_known, switch_known, value_known, strong_known, index_known, weak_known, weak_target_known};
+ghost use Rattle.level_script.specs.Operands.{allows, switch_of, target_of, digits_of, operand_of, below, element_in, is_in_range, var_known, target_known, class_known, spot_known, switch_known, value_known, strong_known, index_known, weak_known, weak_target_known, members_known};
 
 use crate::forms::{Identifier, Number, is_digits, read_identifier, read_number, read_variable};
+use crate::lane_cmd::Members;
+use crate::members::MemberWords;
 use crate::script::Spot;
 use crate::spot::read_spot;
 use world_model::ClassId;
@@ -70,14 +72,17 @@ pub enum Tail {
     Binds(Form),
     /// A weak variable that the line binds, and another word.
     BindsWeak(Form),
+    /// Members of a cluster, whose variables the line binds.
+    Members,
 }
 
-/// The variable that a line binds.
+/// The variables that a line binds.
 #[derive(Drop)]
 pub enum Binds<'a> {
     Nothing,
     Var(Identifier<'a>),
     Weak(Identifier<'a>),
+    Members(MemberWords<'a>),
 }
 
 /// An element of a field of an object.
@@ -106,7 +111,7 @@ pub enum Operand<'a> {
 }
 
 /// What a word stands for.
-#[derive(Clone, Copy)]
+#[derive(Drop)]
 pub enum Known {
     Nothing,
     Var(u32),
@@ -119,6 +124,8 @@ pub enum Known {
     Index(u32),
     Weak(u32),
     WeakTarget(Option<u32>),
+    /// The members of a cluster, whose words are those behind the command's.
+    Members(Members),
 }
 
 impl Known {
@@ -218,6 +225,16 @@ impl Known {
     {
         match self {
             Known::WeakTarget(to) => Some(to),
+            _ => None,
+        }
+    }
+
+    /// The members of a cluster, if it is these.
+    pub fn members(self) -> Option<Members>
+        ensures { result ≡ members_known self }
+    {
+        match self {
+            Known::Members(members) => Some(members),
             _ => None,
         }
     }

@@ -26,7 +26,7 @@ pub enum GcCmd {
 }
 
 /// What a line says.
-#[derive(Clone, Copy, Debug, PartialEq, Eq)]
+#[derive(Clone, Debug, Drop, PartialEq, Eq)]
 pub enum Cmd {
     /// The lane with this number does something.
     Lane(u32, LaneCmd),
@@ -35,7 +35,7 @@ pub enum Cmd {
 }
 
 /// A line that does something.
-#[derive(Clone, Copy, Debug, PartialEq, Eq)]
+#[derive(Clone, Debug, Drop, PartialEq, Eq)]
 pub struct Line {
     /// The number of the line in the input, from 1.
     pub number: u32,
