@@ -1,16 +1,15 @@
 -- A variable is bound exactly where a line binds it and none behind closes the frame.
-use Rattle.std.proofs.Common.{◌≡◌, ℕ, zero, suc, ◌+◌, ◌<◌, ◌≤◌, ◌==◌, inl, inr, arith, refl, sym, ap, subst, ◌∙◌, Bool, true, false, cond, not, ◌&&◌, ◌||◌, List, [], ◌∷◌, ◌++◌, length, get_or, replicate, Option, Some, None, Result, Ok, Err, ◌⊎◌}
-use Rattle.std.specs.Prelude.{nat_lt, slice_get, position}
-use Rattle.std.specs.List.{list_all, list_any, position_or_len}
+use Rattle.std.proofs.Common.{◌≡◌, ℕ, zero, suc, ◌+◌, ◌==◌, inl, inr, refl, sym, ap, subst, ◌∙◌, Bool, true, false, cond, not, ◌&&◌, ◌||◌, List, [], ◌∷◌, ◌++◌, length, replicate, Option, Some, None, Result, Ok, Err, ◌⊎◌}
+use Rattle.std.specs.Prelude.{nat_lt, slice_get}
+use Rattle.std.specs.List.{list_all, list_any}
 use Rattle.std.specs.Str.{bytes_eq, is_utf8}
 use Rattle.std.specs.Prelude.{codes}
-use Rattle.std.proofs.lemmas.Bool.{both_ways, false_from_ne_true, ltb-true, lt-ltb, le-ltb, eqb-true, eq-eqb}
+use Rattle.std.proofs.lemmas.Bool.{false_from_ne_true, eqb-true, eq-eqb}
 use Rattle.std.proofs.lemmas.List.Folds.{list_any-append}
-use Rattle.std.proofs.lemmas.List.Sums.{passes_at_first}
-use Rattle.class_schema.proofs.Labels.{same_bytes, bytes_same}
+use Rattle.class_schema.proofs.Labels.{same_bytes}
 use Rattle.class_schema.proofs.Places.{set_cases}
 use Rattle.world_model.specs.declared.kind.ClassId.{ClassId}
-use Rattle.class_schema.specs.Class.{Class, Schema}
+use Rattle.class_schema.specs.Class.{Schema}
 use Rattle.class_schema.specs.Table.{find_class, added, field_added}
 use Rattle.class_schema.specs.declared.field.FieldKind.{FieldKind}
 use Rattle.class_schema.specs.declared.refusal.SchemaErr.{SchemaErr}
@@ -19,7 +18,7 @@ use Rattle.level_script.specs.Context.{start, with_classes, with_named, more_wea
 use Rattle.level_script.specs.Following.{is_bound_by, binds_name, is_close, says_of, line_of, IsBoundBy, BoundByLines, is_weak_by, says_weak, binds_weak, WeakByLines}
 use Rattle.level_script.specs.Forms.{identifier_of, is_comment}
 use Rattle.level_script.specs.LaneCommands.{frame_of}
-use Rattle.level_script.specs.Lanes.{closed_lane, bound_var, if_bound, with_bound, with_frame, command_found, left_by, with_command, lane_step, lane_index}
+use Rattle.level_script.specs.Lanes.{closed_lane, bound_var, if_bound, with_var, with_vars, with_bound, with_frame, command_found, left_by, with_command, lane_step, lane_index}
 use Rattle.level_script.specs.Operands.{allows, closes, is_some, is_in_range}
 use Rattle.level_script.specs.Lines.{line_words}
 use Rattle.level_script.specs.Names.{number_of_name, number_in, with_name, has_number, with_number}
@@ -38,7 +37,8 @@ use Rattle.level_script.specs.declared.operand.Binds.{Binds}
 use Rattle.level_script.specs.declared.operand.Binds.TheVariants as binds
 use Rattle.level_script.specs.declared.operand.Frame.{Frame}
 use Rattle.level_script.specs.declared.operand.Frame.TheVariants as frame
-use Rattle.level_script.proofs.Framing.{ok_same, err_ok, some_same, any_place, length_push, short_enough, both, and_both, on_ok}
+use Rattle.level_script.proofs.Framing.{short_enough, on_ok}
+use Rattle.level_script.proofs.Places.{ok_same, err_ok, some_same, and_both, both, found_new, found_other, other_place, eq_self, eq_flip}
 
 -- ---- numbers that are bound
 
@@ -111,6 +111,22 @@ bound_none (Some i) = refl
 
 -- ---- a step of a lane
 
+nothing_more : (b : Bool) → b ≡ (b || false)
+nothing_more true = refl
+nothing_more false = refl
+
+or_three : (a b c : Bool) → ((a || b) || c) ≡ (a || (b || c))
+or_three true b c = refl
+or_three false b c = refl
+
+-- the names of members are bound, and the others are what they were
+vars_more : (members : List (List ℕ × List ℕ)) (lane : LaneNames) (name : List ℕ) → is_bound (with_vars members lane) name ≡ (is_bound lane name || list_any (λ m. bytes_eq name m.0) members)
+vars_more [] lane name = nothing_more (is_bound lane name)
+vars_more ((var, class) ∷ members) lane name =
+    vars_more members (with_var var lane) name
+    ∙ ap (λ (b : Bool). b || list_any (λ m. bytes_eq name m.0) members) (bound_more lane.opened lane var name)
+    ∙ or_three (is_bound lane name) (bytes_eq name var) (list_any (λ m. bytes_eq name m.0) members)
+
 -- what is bound after something was done
 abbrev bound_by : List ℕ → Does → Bool → Bool
 bound_by name what was = (was && not (is_close what)) || binds_name name what
@@ -126,10 +142,6 @@ not_closed false = refl
 closed : (b : Bool) → false ≡ (b && false)
 closed true = refl
 closed false = refl
-
-nothing_more : (b : Bool) → b ≡ (b || false)
-nothing_more true = refl
-nothing_more false = refl
 
 module _ (lane : LaneNames) (name : List ℕ) where
   -- an answer tells what is bound
@@ -157,10 +169,11 @@ module _ (lane : LaneNames) (name : List ℕ) where
   binds_more binds.Nothing l = nothing_more (is_bound l name)
   binds_more (binds.Var var) l = bound_more l.opened l var name
   binds_more (binds.Weak weak) l = nothing_more (is_bound l name)
+  binds_more (binds.Members members) l = vars_more members l name
 
-  found_tells : (what : Does) (o : Option LaneCmd) → Tells (bound_by name what (is_bound lane name)) (with_command (left_by what lane) o)
-  found_tells what None = fails _ cause.UnknownName
-  found_tells what (Some command) =
+  found_tells : (what : Does) (o : Result LaneCmd Cause) → Tells (bound_by name what (is_bound lane name)) (with_command (left_by what lane) o)
+  found_tells what (Err why) = fails _ why
+  found_tells what (Ok command) =
       tells _ _ command (binds_more what.binds (with_frame (frame_of what.verb) lane) ∙ ap (λ (b : Bool). b || binds_name name what) (framed_bound (frame_of what.verb)))
 
   -- Each thing that a lane does binds the names that it says, and a close ends all.
@@ -421,6 +434,7 @@ weak_more : (b : Binds) (weaks : List (List ℕ)) (name : List ℕ) → is_some 
 weak_more binds.Nothing weaks name = nothing_more (is_some (number_of_name weaks name))
 weak_more (binds.Var var) weaks name = nothing_more (is_some (number_of_name weaks name))
 weak_more (binds.Weak weak) weaks name = name_more weaks weak name
+weak_more (binds.Members members) weaks name = nothing_more (is_some (number_of_name weaks name))
 
 -- whether a weak variable is known
 abbrev is_weak : Context → List ℕ → Bool

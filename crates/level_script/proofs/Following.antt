@@ -15,7 +15,7 @@ use Rattle.level_script.specs.declared.context.Context.{Context}
 use Rattle.level_script.specs.declared.limits.Limits.{Limits}
 use Rattle.level_script.specs.declared.cause.ScriptErr.{ScriptErr}
 use Rattle.level_script.proofs.First.{first_fault_holds}
-use Rattle.level_script.proofs.Framing.{both}
+use Rattle.level_script.proofs.Places.{both}
 
 -- ---- faults
 

@@ -1,28 +1,26 @@
 -- The lines of a script fit where they stand.
-use Rattle.std.proofs.Common.{◌≡◌, ℕ, ◌+◌, ◌<◌, ◌≤◌, zero, suc, List, [], ◌∷◌, ◌++◌, refl, sym, ap, ◌∙◌, subst, Bool, true, false, not, ◌&&◌, ◌||◌, cond, map, length, get_or, replicate, arith, Option, Some, None, option_map, Result, Ok, Err}
-use Rattle.std.specs.Prelude.{nat_lt, slice_get, slice_set, position, slice_index, slice_index_or}
-use Rattle.std.specs.List.{position_or_len, list_any, list_all}
+use Rattle.std.proofs.Common.{◌≡◌, ℕ, ◌+◌, ◌<◌, ◌≤◌, zero, suc, List, [], ◌∷◌, ◌++◌, refl, sym, ap, ◌∙◌, subst, Bool, true, false, ◌&&◌, cond, map, length, get_or, replicate, arith, Option, Some, None, option_map, Result, Ok, Err}
+use Rattle.std.specs.Prelude.{nat_lt, slice_get, slice_set, slice_index, slice_index_or}
+use Rattle.std.specs.List.{list_all}
 use Rattle.std.specs.Result.{result_ok}
-use Rattle.std.specs.Str.{bytes_eq}
-use Rattle.std.proofs.lemmas.Bool.{ltb-true, lt-ltb}
-use Rattle.std.proofs.lemmas.List.{length-map, length-set, length-append, get_or-set_same, map-set}
-use Rattle.std.proofs.lemmas.List.Sums.{prefix_len-le-length}
+use Rattle.std.proofs.lemmas.Bool.{lt-ltb}
+use Rattle.std.proofs.lemmas.List.{length-map, length-set, get_or-set_same, map-set}
 use Rattle.std.proofs.Math.ListN.{get_or-map}
 use Rattle.world_model.specs.declared.kind.ClassId.{ClassId}
 use Rattle.std.specs.List.{AllByRecursion}
 use Rattle.class_schema.specs.Class.{Class, Schema, Declaration}
 use Rattle.class_schema.specs.Ancestry.{object, class_at}
-use Rattle.class_schema.specs.Table.{find_class, added, admitted, added_below, child, with_own, with_field, field_added, field_refusal, unless_refused, is_named, id_of}
+use Rattle.class_schema.specs.Table.{find_class, added, admitted, added_below, child, with_own, with_field, field_added, field_refusal, unless_refused}
 use Rattle.class_schema.specs.declared.field.FieldKind.{FieldKind}
 use Rattle.class_schema.specs.declared.refusal.SchemaErr.{SchemaErr}
 use Rattle.level_script.specs.Commands.{said_by_line}
 use Rattle.level_script.specs.Context.{start, with_line, with_classes, with_named, more_weaks, with_weak, elements_in, kind_found, field_known, field_counted, with_lane, lane_at, lane_of, after_said, if_said, after_line, script_from}
 use Rattle.level_script.specs.Frames.{opened_after, fits_lane, fits_script, fits, frames_after, are_framed, IsAtOnce, IsNamed, IsPlayable}
 use Rattle.level_script.specs.Forms.{is_identifier}
-use Rattle.level_script.proofs.Naming.{SaysName, SaysNameIfOk, identifier_bytes, line_says}
+use Rattle.level_script.proofs.Naming.{Written, SaysName, SaysNameIfOk, identifier_bytes, line_says}
 use Rattle.level_script.specs.LaneCommands.{frame_of, of_both, command_of, frame_by, beside_by}
-use Rattle.level_script.specs.Lanes.{closed_lane, count_of, bound_var, if_bound, with_bound, known_bound, with_frame, spot_with, spot_found, bound_target, weak_target, known_of, command_known, command_found, left_by, with_command, lane_step, lane_index}
-use Rattle.level_script.specs.Operands.{allows, opened_by, below, element_in, is_in_range, var_known, target_known, class_known, spot_known, switch_known, value_known, strong_known, index_known, weak_known, weak_target_known, fits_spot, fits_target, fits_known, fits_beside}
+use Rattle.level_script.specs.Lanes.{closed_lane, count_of, bound_var, if_bound, with_bound, known_bound, with_frame, spot_with, spot_found, bound_target, weak_target, known_of, operands_known, are_apart, members_found, members_bound, or_unknown, command_known, command_found, left_by, with_command, lane_step, lane_index}
+use Rattle.level_script.specs.Operands.{allows, opened_by, below, element_in, is_in_range, var_known, target_known, class_known, spot_known, switch_known, value_known, strong_known, index_known, weak_known, weak_target_known, members_known, fits_members, fits_spot, fits_target, fits_known, fits_beside}
 use Rattle.level_script.specs.Lines.{input_lines}
 use Rattle.level_script.specs.Names.{number_of_name, number_in, with_name, has_number}
 use Rattle.level_script.specs.Reading.{after_numbered, read_from, read_on, fault_at, outcome_of, script_of, script_of_lines}
@@ -56,6 +54,9 @@ use Rattle.level_script.specs.declared.operand.Place.{Place}
 use Rattle.level_script.specs.declared.said.FieldOf.{FieldOf}
 use Rattle.level_script.specs.declared.script.Script.{Script}
 use Rattle.level_script.specs.declared.tables.Tables.{Tables}
+use Rattle.level_script.proofs.Places.{ok_same, err_ok, some_same, length_push, names_grow, number_below, found_below, class_below, below_true, and_both, both}
+use Rattle.level_script.proofs.Clusters.{vars_grow, with_ok, known_some, bound_fit}
+use Rattle.level_script.specs.declared.lane_cmd.Member.{Member}
 
 -- ---- a step of a lane
 
@@ -194,6 +195,10 @@ module _ (vars count names weaks strong : ℕ) where
   weak_target_there (known.WeakTarget t) to fit e = subst (λ (o : Option ℕ). fits_target weaks o ≡ true) (some_same e) fit.1
   weak_target_there k to fit e = absurd cc
 
+  members_there : (k : Known) (members : List Member) → There k → members_known k ≡ Some members → fits_members vars count members ≡ true
+  members_there (known.Members ms) members fit e = subst (λ (l : List Member). fits_members vars count l ≡ true) (some_same e) fit.0
+  members_there k members fit e = absurd cc
+
   -- the command fits, does to the frame what its word says, and names weak variables and strong pointers that are there
   abbrev Made : Bool → Verb → LaneCmd → Type 0
   Made opened verb command = (fits_lane vars count names opened command ≡ true) × (frame_by command ≡ frame_of verb) × (list_all (fits_beside weaks strong) (beside_by command) ≡ true)
@@ -204,6 +209,8 @@ module _ (vars count names weaks strong : ℕ) where
   command_fits opened verb.Close b f s c may x y z e = subst (Made opened verb.Close) (some_same e) (may, refl, refl)
   command_fits opened verb.New b f s c may x y z e =
       both_made (Made opened verb.New) lane_cmd.New (var_known b) (class_known f) c (λ var class v k. (and_both _ _ (and_both _ _ may (var_there b var x v)) (class_there f class y k), refl, refl)) e
+  command_fits opened verb.Cluster b f s c may x y z e =
+      mapped (Made opened verb.Cluster) lane_cmd.Cluster (members_known b) c (λ members v. (and_both _ _ may (members_there b members x v), refl, refl)) e
   command_fits opened verb.Root b f s c may x y z e =
       both_made (Made opened verb.Root) lane_cmd.Root (var_known f) (switch_known s) c (λ var on v k. (and_both _ _ may (var_there f var y v), refl, refl)) e
   command_fits opened verb.Set b f s c may x y z e =
@@ -245,40 +252,73 @@ frame_left frame.Closes lane = (refl, refl)
 frame_left frame.Inside lane = (refl, refl)
 frame_left frame.Anywhere lane = (refl, refl)
 
+-- what is bound does not hang on the frame
+known_framed : (t : Tables) (f : Frame) (lane : LaneNames) (b : Binds) → known_bound t (with_frame f lane) b ≡ known_bound t lane b
+known_framed t f lane binds.Nothing = refl
+known_framed t f lane (binds.Var var) = ap (λ (ns : List (List ℕ)). Ok (known.Var (number_in ns var))) (frame_left f lane).1
+known_framed t f lane (binds.Weak weak) = refl
+known_framed t f lane (binds.Members members) = ap (λ (ns : List (List ℕ)). members_bound (are_apart members) (members_found t.classes.classes ns members)) (frame_left f lane).1
+
+-- a step whose parts are there
+pub step_done : (t : Tables) (lane left : LaneNames) (does : Does) (bound first second : Known) (command : LaneCmd)
+    → (is_in_range t.strong does.first && is_in_range t.strong does.second) ≡ true → allows (frame_of does.verb) lane.opened ≡ true
+    → operands_known (known_of t lane does.first) (known_of t lane does.second) ≡ Some (first, second)
+    → with_command (left_by does lane) (known_bound t (with_frame (frame_of does.verb) lane) does.binds) ≡ Ok (left, bound)
+    → command_of does.verb bound first second ≡ Some command → lane_step t lane does ≡ Ok (left, command)
+step_done t lane left does bound first second command ranged may operands e is =
+    let h = with_ok (left_by does lane) left (known_bound t (with_frame (frame_of does.verb) lane) does.binds) bound e in
+    let known : known_bound t lane does.binds ≡ Ok bound = sym (known_framed t (frame_of does.verb) lane does.binds) ∙ h.1 in
+    ap (λ (b : Bool). cond b (cond (allows (frame_of does.verb) lane.opened) (with_command (left_by does lane) (command_found t lane does)) (Err cause.Frame)) (Err cause.Number)) ranged
+    ∙ ap (λ (b : Bool). cond b (with_command (left_by does lane) (command_found t lane does)) (Err cause.Frame)) may
+    ∙ ap (λ (r : Result Known Cause). with_command (left_by does lane) (command_known does.verb r (operands_known (known_of t lane does.first) (known_of t lane does.second)))) known
+    ∙ ap (λ (o : Option (Known × Known)). with_command (left_by does lane) (command_known does.verb (Ok bound) o)) operands
+    ∙ ap (λ (o : Option LaneCmd). with_command (left_by does lane) (or_unknown o)) is
+    ∙ ap (λ (l : LaneNames). Ok (l, command)) h.0
+
 bind_left : (b : Binds) (lane : LaneNames) → ((with_bound b lane).opened ≡ lane.opened) × (count_of lane ≤ count_of (with_bound b lane))
 bind_left binds.Nothing lane = (refl, omega arith)
 bind_left (binds.Var var) lane = (refl, names_grow lane.names var)
 bind_left (binds.Weak weak) lane = (refl, omega arith)
+bind_left (binds.Members members) lane = vars_grow members lane
 
 -- weak variables are never fewer
 weaks_grow : (b : Binds) (weaks : List (List ℕ)) → length weaks ≤ length (more_weaks b weaks)
 weaks_grow binds.Nothing weaks = omega arith
 weaks_grow (binds.Var var) weaks = omega arith
 weaks_grow (binds.Weak weak) weaks = names_grow weaks weak
+weaks_grow (binds.Members members) weaks = omega arith
 
--- the variable that is bound is there
-bound_fits : (f : Frame) (b : Binds) (t : Tables) (lane : LaneNames) (vars count names weaks : ℕ) → count_of (with_bound b (with_frame f lane)) ≤ vars → length (more_weaks b t.weaks) ≤ weaks
-    → Fits vars count names weaks t.strong (known_bound t lane b)
-bound_fits f binds.Nothing t lane vars count names weaks few wide = (refl, refl)
-bound_fits f (binds.Var var) t lane vars count names weaks few wide =
-    let below : number_in (with_frame f lane).names var < length (with_name (with_frame f lane).names var) = number_below (with_frame f lane).names var in (
+-- what is bound is there
+bound_fits : (f : Frame) (b : Binds) (t : Tables) (lane : LaneNames) (vars count names weaks : ℕ) (k : Known) → Written b → count_of (with_bound b (with_frame f lane)) ≤ vars
+    → length t.classes.classes ≤ count → length (more_weaks b t.weaks) ≤ weaks → known_bound t lane b ≡ Ok k → Fits vars count names weaks t.strong k
+bound_fits f binds.Nothing t lane vars count names weaks k written few some wide e = subst (Fits vars count names weaks t.strong) (ok_same e) (refl, refl)
+bound_fits f (binds.Var var) t lane vars count names weaks k written few some wide e =
+    let below : number_in (with_frame f lane).names var < length (with_name (with_frame f lane).names var) = number_below (with_frame f lane).names var in
+    subst (Fits vars count names weaks t.strong) (ok_same e) (
       below_true (number_in lane.names var) (length (with_name (with_frame f lane).names var)) vars
           (subst (λ (ns : List (List ℕ)). number_in ns var < length (with_name (with_frame f lane).names var)) (frame_left f lane).1 below) few,
       refl,
     )
-bound_fits f (binds.Weak weak) t lane vars count names weaks few wide = (refl, below_true (number_in t.weaks weak) (length (with_name t.weaks weak)) weaks (number_below t.weaks weak) wide)
+bound_fits f (binds.Weak weak) t lane vars count names weaks k written few some wide e =
+    subst (Fits vars count names weaks t.strong) (ok_same e) (refl, below_true (number_in t.weaks weak) (length (with_name t.weaks weak)) weaks (number_below t.weaks weak) wide)
+bound_fits f (binds.Members members) t lane vars count names weaks k written few some wide e =
+    let h =
+    bound_fit t.classes.classes members (with_frame f lane) vars count k written few some
+    (ap (λ (ns : List (List ℕ)). members_bound (are_apart members) (members_found t.classes.classes ns members)) (frame_left f lane).1 ∙ e) in
+    subst (Fits vars count names weaks t.strong) h.2 (h.1, refl)
 
 -- a command that is found
-found_command : (verb : Verb) (bound : Known) (o p : Option Known) (c : LaneCmd) → command_known verb bound o p ≡ Some c
-    → (first : Known) × (second : Known) × (o ≡ Some first) × (p ≡ Some second) × (command_of verb bound first second ≡ Some c)
-found_command verb bound None p c e = absurd cc
-found_command verb bound (Some first) None c e = absurd cc
-found_command verb bound (Some first) (Some second) c e = (first, second, refl, refl, e)
+found_command : (verb : Verb) (r : Result Known Cause) (o p : Option Known) (c : LaneCmd) → command_known verb r (operands_known o p) ≡ Ok c
+    → (bound : Known) × (first : Known) × (second : Known) × (r ≡ Ok bound) × (o ≡ Some first) × (p ≡ Some second) × (command_of verb bound first second ≡ Some c)
+found_command verb r None p c e = err_ok e
+found_command verb r (Some first) None c e = err_ok e
+found_command verb (Err why) (Some first) (Some second) c e = err_ok e
+found_command verb (Ok bound) (Some first) (Some second) c e = (bound, first, second, refl, refl, refl, known_some (command_of verb bound first second) c e)
 
-found_facts : (t : Tables) (lane : LaneNames) (what : Does) (o : Option LaneCmd) (left : LaneNames × LaneCmd) → allows (frame_of what.verb) lane.opened ≡ true
+found_facts : (t : Tables) (lane : LaneNames) (what : Does) (o : Result LaneCmd Cause) (left : LaneNames × LaneCmd) → Written what.binds → allows (frame_of what.verb) lane.opened ≡ true
     → command_found t lane what ≡ o → with_command (left_by what lane) o ≡ Ok left → FactsOf t lane what left
-found_facts t lane what None left may is e = err_ok e
-found_facts t lane what (Some c) left may is e =
+found_facts t lane what (Err why) left written may is e = err_ok e
+found_facts t lane what (Ok c) left written may is e =
     let h = found_command what.verb (known_bound t lane what.binds) (known_of t lane what.first) (known_of t lane what.second) c is in
     let f = frame_left (frame_of what.verb) lane in
     let b = bind_left what.binds (with_frame (frame_of what.verb) lane) in
@@ -286,9 +326,10 @@ found_facts t lane what (Some c) left may is e =
     let wider = weaks_grow what.binds t.weaks in
     let fit =
     λ (vars count names weaks : ℕ) (few : count_of (left_by what lane) ≤ vars) (some : length t.classes.classes ≤ count) (named : length t.fields ≤ names) (wide : length (more_weaks what.binds t.weaks) ≤ weaks).
-    command_fits vars count names weaks t.strong lane.opened what.verb (known_bound t lane what.binds) h.0 h.1 c may (bound_fits (frame_of what.verb) what.binds t lane vars count names weaks few wide)
-    (known_fits t lane vars count names weaks (omega (arith, more, few)) some named (omega (arith, wider, wide)) what.first h.0 h.2)
-    (known_fits t lane vars count names weaks (omega (arith, more, few)) some named (omega (arith, wider, wide)) what.second h.1 h.3) h.4 in
+    command_fits vars count names weaks t.strong lane.opened what.verb h.0 h.1 h.2 c may
+    (bound_fits (frame_of what.verb) what.binds t lane vars count names weaks h.0 written few some wide h.3)
+    (known_fits t lane vars count names weaks (omega (arith, more, few)) some named (omega (arith, wider, wide)) what.first h.1 h.4)
+    (known_fits t lane vars count names weaks (omega (arith, more, few)) some named (omega (arith, wider, wide)) what.second h.2 h.5) h.6 in
     let least : length (more_weaks what.binds t.weaks) ≤ length (more_weaks what.binds t.weaks) = omega arith in
     let same : frame_by c ≡ frame_of what.verb =
     (fit (count_of (left_by what lane)) (length t.classes.classes) (length t.fields) (length (more_weaks what.binds t.weaks)) (omega arith) (omega arith) (omega arith) least).1 in
@@ -300,11 +341,11 @@ found_facts t lane what (Some c) left may is e =
     })
 
 -- each step
-step_facts : (t : Tables) (lane : LaneNames) (what : Does) (left : LaneNames × LaneCmd) → lane_step t lane what ≡ Ok left → FactsOf t lane what left
-step_facts t lane what left e =
+step_facts : (t : Tables) (lane : LaneNames) (what : Does) (left : LaneNames × LaneCmd) → Written what.binds → lane_step t lane what ≡ Ok left → FactsOf t lane what left
+step_facts t lane what left written e =
     let ranged = if_ok (is_in_range t.strong what.first && is_in_range t.strong what.second) _ cause.Number left e in
     let framed = if_ok (allows (frame_of what.verb) lane.opened) _ cause.Frame left ranged.1 in
-    found_facts t lane what (command_found t lane what) left framed.0 refl framed.1
+    found_facts t lane what (command_found t lane what) left written framed.0 refl framed.1
 
 -- ---- lines after one another
 
@@ -419,23 +460,23 @@ good_lane limits c number i lane left what command g is facts =
 
 -- a step of a lane keeps it
 good_with_lane : (limits : Limits) (c next : Context) (number i : ℕ) (lane : LaneNames) (what : Does) (r : Result (LaneNames × LaneCmd) Cause)
-    → Good limits c → slice_get c.lanes i ≡ Some lane → lane_step c.tables lane what ≡ r → with_lane number c i what.binds r ≡ Ok next
+    → Written what.binds → Good limits c → slice_get c.lanes i ≡ Some lane → lane_step c.tables lane what ≡ r → with_lane number c i what.binds r ≡ Ok next
     → Good limits next
-good_with_lane limits c next number i lane what (Err why) g is step e = err_ok e
-good_with_lane limits c next number i lane what (Ok (left, command)) g is step e =
+good_with_lane limits c next number i lane what (Err why) written g is step e = err_ok e
+good_with_lane limits c next number i lane what (Ok (left, command)) written g is step e =
     subst (Good limits) (ok_same e)
-    (good_lane limits c number i lane left what command g is (step_facts c.tables lane what (left, command) step))
+    (good_lane limits c number i lane left what command g is (step_facts c.tables lane what (left, command) written step))
 
 -- so does a line of a lane that is there
-good_lane_at : (limits : Limits) (c next : Context) (number i : ℕ) (what : Does) (o : Option LaneNames) → Good limits c → slice_get c.lanes i ≡ o
+good_lane_at : (limits : Limits) (c next : Context) (number i : ℕ) (what : Does) (o : Option LaneNames) → Written what.binds → Good limits c → slice_get c.lanes i ≡ o
     → lane_at number c i o what ≡ Ok next → Good limits next
-good_lane_at limits c next number i what None g is e = err_ok e
-good_lane_at limits c next number i what (Some lane) g is e = good_with_lane limits c next number i lane what (lane_step c.tables lane what) g is refl e
+good_lane_at limits c next number i what None written g is e = err_ok e
+good_lane_at limits c next number i what (Some lane) written g is e = good_with_lane limits c next number i lane what (lane_step c.tables lane what) written g is refl e
 
 -- and one of a number that may name a lane
-good_lane_of : (limits : Limits) (c next : Context) (number : ℕ) (what : Does) (o : Option ℕ) → Good limits c → lane_of number c o what ≡ Ok next → Good limits next
-good_lane_of limits c next number what None g e = err_ok e
-good_lane_of limits c next number what (Some i) g e = good_lane_at limits c next number i what (slice_get c.lanes i) g refl e
+good_lane_of : (limits : Limits) (c next : Context) (number : ℕ) (what : Does) (o : Option ℕ) → Written what.binds → Good limits c → lane_of number c o what ≡ Ok next → Good limits next
+good_lane_of limits c next number what None written g e = err_ok e
+good_lane_of limits c next number what (Some i) written g e = good_lane_at limits c next number i what (slice_get c.lanes i) written g refl e
 
 -- ---- the header
 
@@ -557,7 +598,7 @@ good_act limits c next number (said.Field class name what count) g says e = good
 good_act limits c next number said.Full g says e =
     subst (Good limits) (ok_same e)
     (good_push limits c binds.Nothing c.lanes number (cmd.Gc gc_cmd.Full) g refl refl (λ l. omega arith) (λ vars classes names within few named. refl) (λ weaks few. refl))
-good_act limits c next number (said.Lane lane what) g says e = good_lane_of limits c next number what (lane_index (length c.lanes) lane) g e
+good_act limits c next number (said.Lane lane what) g says e = good_lane_of limits c next number what (lane_index (length c.lanes) lane) says g e
 
 -- so does a line that says something
 good_said : (limits : Limits) (c next : Context) (number : ℕ) (r : Result Said Cause) → Good limits c → SaysNameIfOk r → if_said number c r ≡ Ok next → Good limits next

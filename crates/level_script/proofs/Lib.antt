@@ -1,7 +1,9 @@
+pub mod Places
 pub mod Cutting
 pub mod Forming
 pub mod NameTables
 pub mod Taking
+pub mod Clusters
 pub mod Naming
 pub mod Framing
 pub mod First

@@ -1,5 +1,5 @@
 -- Answers, and the numbers of names: their places among the names.
-use Rattle.std.proofs.Common.{◌≡◌, ℕ, ◌+◌, ◌<◌, ◌≤◌, ◌==◌, zero, suc, List, [], ◌∷◌, ◌++◌, refl, sym, ap, ◌∙◌, subst, Bool, true, false, not, ◌&&◌, ◌||◌, cond, length, get_or, arith, Option, Some, None, option_map, Result, Ok, Err}
+use Rattle.std.proofs.Common.{◌≡◌, ℕ, ◌+◌, ◌<◌, ◌≤◌, ◌==◌, List, [], ◌∷◌, ◌++◌, refl, sym, ap, ◌∙◌, subst, Bool, true, false, not, ◌&&◌, ◌||◌, cond, length, get_or, arith, Option, Some, None, option_map, Result, Ok, Err}
 use Rattle.std.specs.Prelude.{nat_lt, position}
 use Rattle.std.specs.List.{position_or_len, list_any}
 use Rattle.std.specs.Str.{bytes_eq}

@@ -1,5 +1,5 @@
 -- The commands of a lane: all that is said of one command.
-use Rattle.std.specs.Prelude.{ℕ, Bool, List, [], ◌∷◌, codes, Option, Some, None, option_map, if◌then◌else◌}
+use Rattle.std.specs.Prelude.{ℕ, List, [], ◌∷◌, codes, Option, Some, None, option_map, if◌then◌else◌}
 use Rattle.std.specs.Str.{bytes_eq}
 use Rattle.level_script.specs.Operands.{var_known, target_known, class_known, spot_known, switch_known, value_known, strong_known, index_known, weak_known, weak_target_known, members_known}
 use Rattle.level_script.specs.declared.lane_cmd.LaneCmd.{LaneCmd}

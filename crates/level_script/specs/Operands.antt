@@ -1,5 +1,5 @@
 -- The words behind the word of a lane's command: their forms, what they say, and what that stands for.
-use Rattle.std.specs.Prelude.{◌<◌, ℕ, ◌==◌, nat_lt, nat_le, Bool, true, false, not, ◌&&◌, List, [], ◌∷◌, map, length, codes, Option, Some, None, option_map, if◌then◌else◌}
+use Rattle.std.specs.Prelude.{ℕ, ◌==◌, nat_lt, nat_le, Bool, true, false, not, ◌&&◌, List, map, length, codes, Option, Some, None, option_map, if◌then◌else◌}
 use Rattle.std.specs.List.{list_all}
 use Rattle.std.specs.Str.{bytes_eq}
 use Rattle.world_model.specs.declared.kind.ClassId.{ClassId}

@@ -1,6 +1,7 @@
 //! The lanes of a script, as far as it has been read.
-ghost use Rattle.std.specs.Prelude.{◌≡◌, ◌<◌, ◌≤◌, length, map, replicate, IfOk, OnOk, Some, slice_get};
+ghost use Rattle.std.specs.Prelude.{◌≡◌, ◌&&◌, ◌<◌, ◌≤◌, length, map, replicate, IfOk, OnOk, Some, slice_get};
 ghost use Rattle.level_script.specs.Names.{number_in};
+ghost use Rattle.level_script.specs.Operands.{is_in_range};
 ghost use Rattle.level_script.specs.Context.{with_weak};
 ghost use Rattle.level_script.specs.Lanes.{closed_lane, bound_var, spot_found, bound_target, weak_target, known_of, known_bound, operands_known, with_command, with_frame, with_var, with_bound, lane_step, lane_index, Steps, StepsAt, count_of};
 
@@ -23,6 +24,13 @@ fn weak_target(weaks: &NameTable, to: &Option<Identifier<'_>>) -> Option<Option<
         return Some(None);
     };
     Some(Some(weaks.find(name.as_str())?))
+}
+
+/// Whether the numbers of a line are in their ranges, where a lane has so many strong pointers.
+fn are_in_range(strong: u32, does: &Does<'_>) -> bool
+    ensures { result ≡ (is_in_range strong does.now.first && is_in_range strong does.now.second) }
+{
+    does.first.is_in_range(strong) && does.second.is_in_range(strong)
 }
 
 /// A lane.
@@ -171,7 +179,7 @@ impl LaneNames {
         ensures lane { Steps (lane_step tables.old self.old does.now) self.new result }
         ensures tables { OnOk result (tables.new ≡ with_weak does.now.binds tables.old) }
     {
-        if !(does.first.is_in_range(tables.strong) && does.second.is_in_range(tables.strong)) {
+        if !are_in_range(tables.strong, does) {
             return Err(Stop::Faulty(Cause::Number));
         }
         let frame = frame_of(does.verb);
