@@ -12,6 +12,7 @@ use Rattle.level_script.specs.declared.cause.ParseErr.TheVariants as parse
 use Rattle.level_script.specs.declared.cause.ScriptErr.{ScriptErr}
 use Rattle.level_script.specs.declared.limits.Limits.{Limits}
 use Rattle.level_script.specs.declared.script.Script.{Script}
+use Rattle.level_script.specs.Operands.{fits_members}
 use Rattle.world_play.specs.Header.{Header}
 use Rattle.world_play.specs.Streams.{Read, Gained, line_feeds}
 use Rattle.play_io.specs.Faults.{Rose}
@@ -47,6 +48,7 @@ use Rattle.world_play.specs.Types.{ClassId, Reply}
 use Rattle.world_play.specs.Types.reply
 use Rattle.world_play.proofs.Lines.{IsPlain, ToldPlain, feeds_append, is_line, one_feed, start_plain}
 use Rattle.world_play.proofs.Streams.{gained_none}
+use Rattle.world_play.proofs.Members.{members_fit}
 
 long_outcome : (bytes : List ℕ) (limits : Limits) → nat_lt 16777216 (length bytes) ≡ true → outcome_of bytes limits ≡ Err (fault_at 0 cause.TooLong)
 unfolding outcome_of
@@ -213,6 +215,9 @@ fits_class vars header frames (cmd.Lane lane what) h = go what (and_true (nat_lt
         (and_true (slice_index_or frames lane false && nat_lt var (slice_index vars lane)) (nat_lt class.0 (length header.classes.classes))
         h).1 in
         grind (arith, nat_tests, last)
+    go (lane_cmd.Cluster members) h =
+        members_fit (slice_index vars lane) (length header.classes.classes) members
+        (and_true (slice_index_or frames lane false) (fits_members (slice_index vars lane) (length header.classes.classes) members) h).1
     go what h = tt
 
 framed_classes : (vars : List ℕ) (header : Header) (frames : List Bool) (lines : List Line)

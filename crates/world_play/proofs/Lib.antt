@@ -9,6 +9,7 @@ pub mod Lines
 pub mod Streams
 pub mod Keeping
 pub mod Turning
+pub mod Members
 pub mod Storing
 pub mod KeptKinds
 pub mod Collecting

@@ -129,6 +129,11 @@ is_line classes (reply.Closed lane) plain = before (decimal lane) _ (plain_decim
 is_line classes (reply.New lane n) plain =
     before (decimal lane) _ (plain_decimal lane)
     (words (codes " new ") _ refl (before (decimal n.lane) _ (plain_decimal n.lane) (words (codes ":") _ refl (before (decimal n.count) _ (plain_decimal n.count) ends))))
+is_line classes (reply.Cluster lane n count) plain =
+    before (decimal lane) _ (plain_decimal lane)
+    (words (codes " cluster ") _ refl
+    (before (decimal n.lane) _ (plain_decimal n.lane)
+    (words (codes ":") _ refl (before (decimal n.count) _ (plain_decimal n.count) (words (codes " ") _ refl (before (decimal count) _ (plain_decimal count) ends))))))
 is_line classes (reply.Full lane free) plain = before (decimal lane) _ (plain_decimal lane) (words (codes " full ") _ refl (before (decimal free) _ (plain_decimal free) ends))
 is_line classes (reply.NamesSpent lane left) plain = before (decimal lane) _ (plain_decimal lane) (words (codes " names spent ") _ refl (before (decimal left) _ (plain_decimal left) ends))
 is_line classes (reply.WasRoot lane was) plain = before (decimal lane) _ (plain_decimal lane) (words (codes " was ") _ refl (before (cond was (codes "on") (codes "off")) _ (plain_was was) ends))
@@ -198,6 +203,7 @@ some_text classes (reply.Object lane n class) = some_object classes lane n class
 some_text classes (reply.Opened lane phase) = line_some _ (is_line classes (reply.Opened lane phase) tt)
 some_text classes (reply.Closed lane) = line_some _ (is_line classes (reply.Closed lane) tt)
 some_text classes (reply.New lane n) = line_some _ (is_line classes (reply.New lane n) tt)
+some_text classes (reply.Cluster lane n count) = line_some _ (is_line classes (reply.Cluster lane n count) tt)
 some_text classes (reply.Full lane free) = line_some _ (is_line classes (reply.Full lane free) tt)
 some_text classes (reply.NamesSpent lane left) = line_some _ (is_line classes (reply.NamesSpent lane left) tt)
 some_text classes (reply.WasRoot lane was) = line_some _ (is_line classes (reply.WasRoot lane was) tt)

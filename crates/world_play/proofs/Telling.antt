@@ -13,12 +13,13 @@ use Rattle.std.specs.Prelude.{◌%◌, MatchOption, option_map, if◌then◌else
 use Rattle.std.specs.List.{find}
 use Rattle.std.specs.Option.{is_some}
 use Rattle.std.proofs.lemmas.Bool.{eqb-true, eq-eqb}
+use Rattle.std.proofs.lemmas.List.{length-map}
 use Rattle.word_layout.specs.Values.{weak_word}
 use Rattle.world_model.specs.LaneSteps.{DrawsPair}
 use Rattle.world_model.proofs.Counts.{count-append, count-cons}
 use Rattle.world_model.proofs.Pairs.{pair_found}
 use Rattle.class_schema.specs.Lawful.{IsSchema}
-use Rattle.world_model.specs.NameLists.{members, set_at, same_pass}
+use Rattle.world_model.specs.NameLists.{members, names_from, set_at, same_pass}
 use Rattle.world_model.specs.World as world
 use Rattle.world_model.specs.World.{World, Pair, Removal, left_in, left_of}
 use Rattle.world_model.specs.State.{State, beginning}
@@ -31,7 +32,7 @@ use Rattle.class_schema.specs.Class.{Class}
 use Rattle.class_schema.specs.Ancestry.{object}
 use Rattle.class_schema.specs.Table.{kind_of}
 use Rattle.world_play.specs.Header.{Header}
-use Rattle.world_play.specs.Types.{Name, Weak, ClassId, Kind, FieldKind, Phase, Idle, Begin, Pass, Lane, Collector, Act, Entry, Reply, Line, Cmd, LaneCmd, GcCmd}
+use Rattle.world_play.specs.Types.{Name, Weak, ClassId, Kind, FieldKind, Phase, Idle, Begin, Pass, Lane, Collector, Act, Entry, Reply, Line, Cmd, LaneCmd, Member, GcCmd}
 use Rattle.world_play.specs.Types.act
 use Rattle.world_play.specs.Types.create
 use Rattle.world_play.specs.Types.begin
@@ -41,14 +42,15 @@ use Rattle.world_play.specs.Types.lane_cmd
 use Rattle.world_play.specs.Types.gc_cmd
 use Rattle.world_model.specs.NameLists.{same_name, same_weak, set_name}
 use Rattle.world_play.specs.Spots.{Element, is_int, is_weak, kind_at, value_of, set_spot, get_spot, int_spot, weak_spot, told_object}
-use Rattle.world_play.specs.Bindings.{Bindings, no_bindings, bound, weak_bound, ended}
+use Rattle.world_play.specs.Bindings.{Bindings, no_bindings, bound, members_bound, weak_bound, ended}
 use Rattle.world_play.specs.Pairs.{no_pair, pair_in, has_serial, forged, stored}
 use Rattle.world_play.specs.Values.{Value, Nothing, Number, Own, Forged, number_of, pair_of, is_pair, same_value, Seen}
-use Rattle.world_play.specs.Lanes.{OneCall, Calls, Says, OnObject, OnElement, Makes, GivesPair, ReadsPair, object_of, LaneTurn}
+use Rattle.world_play.specs.Lanes.{OneCall, Calls, Says, OnObject, OnElement, Makes, kinds_of, GivesPair, ReadsPair, object_of, LaneTurn}
 use Rattle.world_play.specs.Collections.{Collected, RefusesBegin, told_full, GcTurn}
 use Rattle.world_play.specs.Plays.{TurnBy, Plays, text, entries_of}
-use Rattle.world_play.specs.Outcome.{Scene, names_left, free, next_name, new_reply, with_object, root_reply, with_root, on_element, where_element, with_cell, with_plain, pair_at, with_strong, weak_reply, weak_given, with_pair, with_weak, given, Told, unreached, collection, full_reply, with_collection, outcome_of, replies_from}
+use Rattle.world_play.specs.Outcome.{Scene, names_left, free, next_name, make_reply, with_made, with_unit, root_reply, with_root, on_element, where_element, with_cell, with_plain, pair_at, with_strong, weak_reply, weak_given, with_pair, with_weak, given, Told, unreached, collection, full_reply, with_collection, outcome_of, replies_from}
 use Rattle.world_play.specs.Laws.{LaneClass, HasClass, OneText}
+use Rattle.world_play.proofs.Members.{lists_more, IsKind, one_kind, members_kinds, members_weaks, members_objects}
 use Rattle.world_play.proofs.Order.{same_order}
 use Rattle.world_play.proofs.Removing.{scene_of, IsCalm, HasCollected, has_collected}
 use Rattle.world_play.proofs.Destroying.{InTable}
@@ -75,44 +77,19 @@ in_table header w some at_once known = record {
   at_once = λ class. at_once_there header.classes.classes class.0 at_once;
 }
 
--- with one kind more
-known_last : (count : ℕ) (kinds : List Kind) (kind : Kind) → kind.class.0 < count → ((i : ℕ) (k : Kind) → slice_get kinds i ≡ Some k → k.class.0 < count)
-    → (i : ℕ) (k : Kind) → slice_get (kinds ++ kind ∷ []) i ≡ Some k → k.class.0 < count
-known_last count [] kind small h zero k e = subst (λ (x : Kind). x.class.0 < count) (let same : kind ≡ k = cc in same) small
-known_last count [] kind small h (suc i) k e = absurd cc
-known_last count (x ∷ kinds) kind small h zero k e = h 0 k e
-known_last count (x ∷ kinds) kind small h (suc i) k e = known_last count kinds kind small (λ j. h (suc j)) i k e
-
-known_more : (count : ℕ) (kinds : ℕ → List Kind) (lane : ℕ) (kind : Kind) → kind.class.0 < count → ((l i : ℕ) (k : Kind) → slice_get (kinds l) i ≡ Some k → k.class.0 < count)
-    → (l i : ℕ) (k : Kind) → slice_get (set_at kinds lane (kinds lane ++ kind ∷ []) l) i ≡ Some k → k.class.0 < count
-known_more count kinds lane kind small h l i k e = go (l == lane) e
-  where
-    go : (b : Bool) → slice_get (cond b (kinds lane ++ kind ∷ []) (kinds l)) i ≡ Some k → k.class.0 < count
-    go true is = known_last count (kinds lane) kind small (h lane) i k is
-    go false is = h l i k is
-
--- a lawful kind has no more references than an object has cells
-lawful_fits : (z : Sizes) (kind : Kind) → IsTrue (list_all (is_lawful z) (kind ∷ [])) → kind.refs ≤ z.slots
-lawful_fits z kind h =
-    let one = and_true (is_lawful z kind) true h in
+-- lawful kinds have no more references than an object has cells
+lawful_fits : (z : Sizes) (kinds : List Kind) → list_all (is_lawful z) kinds ≡ true → AllByRecursion (λ k. k.refs ≤ z.slots) kinds
+lawful_fits z [] h = tt
+lawful_fits z (kind ∷ kinds) h =
+    let one = and_true (is_lawful z kind) _ h in
     let both = and_true (nat_lt kind.class.0 4096 && nat_le (kind.refs + kind.plain) z.slots) _ one.0 in
     let sum : nat_le (kind.refs + kind.plain) z.slots ≡ true = (and_true (nat_lt kind.class.0 4096) _ both.0).1 in
-    grind (arith, nat_tests, sum)
+    (grind (arith, nat_tests, sum), lawful_fits z kinds one.1)
 
-fits_last : (slots : ℕ) (kinds : List Kind) (kind : Kind) → kind.refs ≤ slots → ((i : ℕ) (k : Kind) → slice_get kinds i ≡ Some k → k.refs ≤ slots)
-    → (i : ℕ) (k : Kind) → slice_get (kinds ++ kind ∷ []) i ≡ Some k → k.refs ≤ slots
-fits_last slots [] kind small h zero k e = subst (λ (x : Kind). x.refs ≤ slots) (let same : kind ≡ k = cc in same) small
-fits_last slots [] kind small h (suc i) k e = absurd cc
-fits_last slots (x ∷ kinds) kind small h zero k e = h 0 k e
-fits_last slots (x ∷ kinds) kind small h (suc i) k e = fits_last slots kinds kind small (λ j. h (suc j)) i k e
-
-fits_more : (slots : ℕ) (kinds : ℕ → List Kind) (lane : ℕ) (kind : Kind) → kind.refs ≤ slots → ((l i : ℕ) (k : Kind) → slice_get (kinds l) i ≡ Some k → k.refs ≤ slots)
-    → (l i : ℕ) (k : Kind) → slice_get (set_at kinds lane (kinds lane ++ kind ∷ []) l) i ≡ Some k → k.refs ≤ slots
-fits_more slots kinds lane kind small h l i k e = go (l == lane) e
-  where
-    go : (b : Bool) → slice_get (cond b (kinds lane ++ kind ∷ []) (kinds l)) i ≡ Some k → k.refs ≤ slots
-    go true is = fits_last slots (kinds lane) kind small (h lane) i k is
-    go false is = h l i k is
+-- the classes of kinds of the table are there
+known_kinds : (header : Header) (kinds : List Kind) → AllByRecursion (IsKind header) kinds → AllByRecursion (λ k. k.class.0 < length header.classes.classes) kinds
+known_kinds header [] all = tt
+known_kinds header (k ∷ kinds) all = (all.0.0, known_kinds header kinds all.1)
 
 -- these are the values of the weak variables and of the plain cells of a world
 abbrev Beside : Header → World → (ℕ → Weak) → (ℕ → Value) → (Name → ℕ → Value) → Type 0
@@ -154,7 +131,7 @@ module _ (z : Sizes) (header : Header) (s : State) (lane : ℕ) (a : Act) (piece
   now : LegalFrom z s piece → LegalFrom z s (record { pass = Lane lane; act = a } ∷ [])
   now legal = subst (LegalFrom z s) entries legal
 
--- ---- a lane makes an object
+-- ---- a lane makes objects
 
 free_same : (z : Sizes) (w : World) (lane : ℕ) → w.removals ≡ [] → world.free z w lane ≡ free z (scene_of w) lane
 free_same z w lane none =
@@ -163,83 +140,88 @@ free_same z w lane none =
     omega (arith, removed)
 
 -- which of the three replies there is
-made_reply : (z : Sizes) (c : Scene) (lane : ℕ) → 1 ≤ names_left z c lane → 1 ≤ free z c lane → new_reply z c lane ≡ reply.New lane (next_name c lane)
-made_reply z c lane left room =
-    let some : nat_lt (names_left z c lane) 1 ≡ false = grind (arith, nat_tests) in
-    let place : nat_lt (free z c lane) 1 ≡ false = grind (arith, nat_tests) in
-    rw (some, place) refl
+module _ (z : Sizes) (c : Scene) (lane count : ℕ) (told : Name → Reply) where
+  made_reply : count ≤ names_left z c lane → count ≤ free z c lane → make_reply z c lane count told ≡ told (next_name c lane)
+  made_reply left room =
+      let some : nat_lt (names_left z c lane) count ≡ false = grind (arith, nat_tests) in
+      let place : nat_lt (free z c lane) count ≡ false = grind (arith, nat_tests) in
+      rw (some, place) refl
 
-room_reply : (z : Sizes) (c : Scene) (lane : ℕ) → 1 ≤ names_left z c lane → free z c lane < 1 → new_reply z c lane ≡ reply.Full lane (free z c lane)
-room_reply z c lane left none =
-    let some : nat_lt (names_left z c lane) 1 ≡ false = grind (arith, nat_tests) in
-    let place : nat_lt (free z c lane) 1 ≡ true = grind (arith, nat_tests) in
-    rw (some, place) refl
+  room_reply : count ≤ names_left z c lane → free z c lane < count → make_reply z c lane count told ≡ reply.Full lane (free z c lane)
+  room_reply left none =
+      let some : nat_lt (names_left z c lane) count ≡ false = grind (arith, nat_tests) in
+      let place : nat_lt (free z c lane) count ≡ true = grind (arith, nat_tests) in
+      rw (some, place) refl
 
-spent_reply : (z : Sizes) (c : Scene) (lane : ℕ) → names_left z c lane < 1 → new_reply z c lane ≡ reply.NamesSpent lane (names_left z c lane)
-spent_reply z c lane none = let spent : nat_lt (names_left z c lane) 1 ≡ true = grind (arith, nat_tests) in rw spent refl
+  spent_reply : names_left z c lane < count → make_reply z c lane count told ≡ reply.NamesSpent lane (names_left z c lane)
+  spent_reply none = let spent : nat_lt (names_left z c lane) count ≡ true = grind (arith, nat_tests) in rw spent refl
 
 get_more : {A : Type 0} (xs ys : List A) (i : ℕ) (k : A) → slice_get xs i ≡ Some k → slice_get (xs ++ ys) i ≡ Some k
 get_more [] ys i k e = absurd cc
 get_more (x ∷ xs) ys zero k e = e
 get_more (x ∷ xs) ys (suc i) k e = get_more xs ys i k e
 
--- an object keeps its kind as one more is made
-kinds_keep : (kinds : ℕ → List Kind) (lane : ℕ) (kind : Kind) (m : Name) (k : Kind) → kind_at kinds m ≡ Some k → kind_at (set_at kinds lane (kinds lane ++ kind ∷ [])) m ≡ Some k
-kinds_keep kinds lane kind m k e = go (m.lane == lane) refl
+-- an object keeps its kind as more are made
+kinds_keep : (kinds : ℕ → List Kind) (lane : ℕ) (more : List Kind) (m : Name) (k : Kind) → kind_at kinds m ≡ Some k → kind_at (set_at kinds lane (kinds lane ++ more)) m ≡ Some k
+kinds_keep kinds lane more m k e = go (m.lane == lane) refl
   where
-    go : (b : Bool) → (m.lane == lane) ≡ b → slice_get (cond b (kinds lane ++ kind ∷ []) (kinds m.lane)) (m.count - 1) ≡ Some k
-    go true t = get_more (kinds lane) (kind ∷ []) (m.count - 1) k (subst (λ (l : ℕ). slice_get (kinds l) (m.count - 1) ≡ Some k) (eqb-true m.lane lane t) e)
+    go : (b : Bool) → (m.lane == lane) ≡ b → slice_get (cond b (kinds lane ++ more) (kinds m.lane)) (m.count - 1) ≡ Some k
+    go true t = get_more (kinds lane) more (m.count - 1) k (subst (λ (l : ℕ). slice_get (kinds l) (m.count - 1) ≡ Some k) (eqb-true m.lane lane t) e)
     go false t = e
 
-makes : (z : Sizes) (header : Header) (s : State) (lane : ℕ) (class : ClassId) (piece : List Entry) (r : Reply)
-    → (weaks : ℕ → Weak) (values : ℕ → Value) (cells : Name → ℕ → Value) → Beside header s.world weaks values cells
-    → class.0 < length header.classes.classes → IsCalm z s.world → AreKnown header s.world → LegalFrom z s piece
-    → Makes s lane (kind_of header.classes class) piece r
-    → Leaves z header s piece r (new_reply z (scene_of s.world) lane)
-    (with_object (scene_of s.world) lane (kind_of header.classes class) (new_reply z (scene_of s.world) lane)) weaks values cells
-makes z header s lane class piece r weaks values cells beside small calm known legal (inl (count, (acts, call, is), tells)) =
-    let kind : Kind = kind_of header.classes class in
-    let a : Act = act.Make (kind ∷ []) count in
-    let c : Scene = scene_of s.world in
-    let may = (now z header s lane a piece acts call.0 is legal).0.may in
-    let left : 1 ≤ names_left z c lane = omega (arith, may.names) in
-    let room : 1 ≤ free z c lane = omega (arith, may.room, free_same z s.world lane calm.released) in
-    let next : reply.New lane (record { lane = lane; count = count }) ≡ reply.New lane (next_name c lane) = ap (λ (n : ℕ). reply.New lane (record { lane = lane; count = n })) may.next in
-    let made : new_reply z c lane ≡ reply.New lane (next_name c lane) = made_reply z c lane left room in
-    here z header s lane a piece acts call.0 is (λ es. Leaves z header s es r (new_reply z c lane) (with_object c lane kind (new_reply z c lane)) weaks values cells)
-    (record {
-      told = tells ∙ next ∙ sym made;
-      left = ap (λ (n : ℕ). with_object c lane kind (reply.New lane (record { lane = lane; count = n }))) may.next ∙ ap (with_object c lane kind) (sym made);
-      calm =
-          record {
-            idle = calm.idle;
-            released = calm.released;
-            cells = calm.cells;
-            pointers = calm.pointers;
-            fits = fits_more z.slots s.world.kinds lane kind (lawful_fits z kind may.lawful) calm.fits;
-            valid = calm.valid;
-            small = calm.small;
-          };
-      table = known_more (length header.classes.classes) s.world.kinds lane kind small known;
-      beside = beside_more header s.world.kinds s.world.pairs s.world.plain weaks values cells beside _ s.world.pairs (kinds_keep s.world.kinds lane kind) (λ p k. k);
-    })
-makes z header s lane class piece r weaks values cells beside small calm known legal (inr (create.Full room, (acts, call, is), tells)) =
-    let c : Scene = scene_of s.world in
-    let kind : Kind = kind_of header.classes class in
-    let may = (now z header s lane (act.Full 1 room) piece acts call.0 is legal).0.may in
-    let same : room ≡ free z c lane = may.rest ∙ free_same z s.world lane calm.released in
-    let none : free z c lane < 1 = omega (arith, may.short, same) in
-    let full : new_reply z c lane ≡ reply.Full lane (free z c lane) = room_reply z c lane may.names none in
-    here z header s lane (act.Full 1 room) piece acts call.0 is (λ es. Leaves z header s es r (new_reply z c lane) (with_object c lane kind (new_reply z c lane)) weaks values cells)
-    (record { told = tells ∙ ap (reply.Full lane) same ∙ sym full; left = ap (with_object c lane kind) (sym full); calm = calm; table = known; beside = beside })
-makes z header s lane class piece r weaks values cells beside small calm known legal (inr (create.NamesSpent left, (acts, call, is), tells)) =
-    let c : Scene = scene_of s.world in
-    let kind : Kind = kind_of header.classes class in
-    let may = (now z header s lane (act.NamesSpent 1 left) piece acts call.0 is legal).0.may in
-    let none : names_left z c lane < 1 = omega (arith, may.short, may.rest) in
-    let spent : new_reply z c lane ≡ reply.NamesSpent lane (names_left z c lane) = spent_reply z c lane none in
-    here z header s lane (act.NamesSpent 1 left) piece acts call.0 is (λ es. Leaves z header s es r (new_reply z c lane) (with_object c lane kind (new_reply z c lane)) weaks values cells)
-    (record { told = tells ∙ ap (reply.NamesSpent lane) may.rest ∙ sym spent; left = ap (with_object c lane kind) (sym spent); calm = calm; table = known; beside = beside })
+module _ (z : Sizes) (header : Header) (s : State) (lane : ℕ) (kinds : List Kind) (asked : ℕ) (many : asked ≡ length kinds) (told : Name → Reply) (piece : List Entry) (r : Reply)
+    (weaks : ℕ → Weak) (values : ℕ → Value) (cells : Name → ℕ → Value) (beside : Beside header s.world weaks values cells)
+    (all : AllByRecursion (IsKind header) kinds) (calm : IsCalm z s.world) (known : AreKnown header s.world) (legal : LegalFrom z s piece)
+    (unit : (n : Name) → with_unit (scene_of s.world) lane kinds (told n) ≡ with_made (scene_of s.world) lane kinds) where
+  abbrev Made : List Entry → Type 0
+  Made es =
+      let c : Scene = scene_of s.world in
+      let what : Reply = make_reply z c lane asked told in
+      Leaves z header s es r what (with_unit c lane kinds what) weaks values cells
+
+  makes : Makes s lane kinds told piece r → Made piece
+  makes (inl (count, (acts, call, is), tells)) =
+      let a : Act = act.Make kinds count in
+      let c : Scene = scene_of s.world in
+      let may = (now z header s lane a piece acts call.0 is legal).0.may in
+      let left : asked ≤ names_left z c lane = omega (arith, may.names, many) in
+      let room : asked ≤ free z c lane = omega (arith, may.room, many, free_same z s.world lane calm.released) in
+      let made : make_reply z c lane asked told ≡ told (next_name c lane) = made_reply z c lane asked told left room in
+      here z header s lane a piece acts call.0 is Made
+      (record {
+        told = tells ∙ ap (λ (n : ℕ). told (record { lane = lane; count = n })) may.next ∙ sym made;
+        left =
+            ap (λ (n : ℕ). record c { kinds = set_at c.kinds lane (c.kinds lane ++ kinds); units = c.units ++ names_from lane n kinds ∷ [] }) may.next
+            ∙ sym (ap (with_unit c lane kinds) made ∙ unit (next_name c lane));
+        calm =
+            record {
+              idle = calm.idle;
+              released = calm.released;
+              cells = calm.cells;
+              pointers = calm.pointers;
+              fits = λ l i k e. lists_more (λ (k : Kind). k.refs ≤ z.slots) s.world.kinds lane kinds (lawful_fits z kinds may.lawful) l i k e (calm.fits l i k);
+              valid = calm.valid;
+              small = calm.small;
+            };
+        table =
+            λ l i k e. lists_more (λ (k : Kind). k.class.0 < length header.classes.classes) s.world.kinds lane kinds (known_kinds header kinds all) l i k e (known l i k);
+        beside = beside_more header s.world.kinds s.world.pairs s.world.plain weaks values cells beside _ s.world.pairs (kinds_keep s.world.kinds lane kinds) (λ p k. k);
+      })
+  makes (inr (create.Full room, (acts, call, is), tells)) =
+      let c : Scene = scene_of s.world in
+      let may = (now z header s lane (act.Full (length kinds) room) piece acts call.0 is legal).0.may in
+      let same : room ≡ free z c lane = may.rest ∙ free_same z s.world lane calm.released in
+      let none : free z c lane < asked = omega (arith, may.short, same, many) in
+      let full : make_reply z c lane asked told ≡ reply.Full lane (free z c lane) = room_reply z c lane asked told (omega (arith, may.names, many)) none in
+      here z header s lane (act.Full (length kinds) room) piece acts call.0 is Made
+      (record { told = tells ∙ ap (reply.Full lane) same ∙ sym full; left = ap (with_unit c lane kinds) (sym full); calm = calm; table = known; beside = beside })
+  makes (inr (create.NamesSpent left, (acts, call, is), tells)) =
+      let c : Scene = scene_of s.world in
+      let may = (now z header s lane (act.NamesSpent (length kinds) left) piece acts call.0 is legal).0.may in
+      let none : names_left z c lane < asked = omega (arith, may.short, may.rest, many) in
+      let spent : make_reply z c lane asked told ≡ reply.NamesSpent lane (names_left z c lane) = spent_reply z c lane asked told none in
+      here z header s lane (act.NamesSpent (length kinds) left) piece acts call.0 is Made
+      (record { told = tells ∙ ap (reply.NamesSpent lane) may.rest ∙ sym spent; left = ap (with_unit c lane kinds) (sym spent); calm = calm; table = known; beside = beside })
 
 -- ---- objects and cells
 
@@ -684,8 +666,21 @@ module _ (z : Sizes) (header : Header) (s : State) (names new : Bindings) (value
       tells_of z header s names new (ended names lane) values cells _ piece r same refl
       (closes z header s lane piece r calm known legal lawful schema points names values cells beside acts call.0 is tells)
   tells_lane (lane_cmd.New var class) has (h, same) =
-      let leaves = makes z header s lane class piece r names.weaks values cells beside has calm known legal h in
+      let leaves =
+      makes z header s lane (kind_of header.classes class ∷ []) 1 refl (reply.New lane) piece r names.weaks values cells beside (one_kind header class has) calm known legal (λ n. refl) h
+      in
       tells_of z header s names new (bound names lane var (object_of r)) values cells _ piece r same (objects_bound names lane var r _ leaves.told) leaves
+  tells_lane (lane_cmd.Cluster members) has (h, same) =
+      let told : Name → Reply = λ first. reply.Cluster lane first (length members) in
+      let leaves = makes z header s lane (kinds_of header members) (length members) (sym (length-map members (λ (m : Member). kind_of header.classes m.class))) told piece r names.weaks values cells beside (members_kinds header members has) calm known legal (λ n. refl) h in
+      let what : Reply = make_reply z (scene_of s.world) lane (length members) told in
+      let seen : Seen = seen_of names values cells in
+      let scene : Scene = with_unit (scene_of s.world) lane (kinds_of header members) what in
+      tells_of z header s names new (members_bound names lane members (object_of r)) values cells (cmd.Lane lane (lane_cmd.Cluster members)) piece r same
+      (ap (λ (q : Reply). (members_bound names lane members (object_of q)).objects) leaves.told ∙ members_objects names seen.names lane members (object_of what) refl)
+      (subst (λ (v : ℕ → Value). Leaves z header s piece r what scene (members_bound names lane members (object_of r)).weaks v cells)
+      (sym (members_weaks seen.names lane members (object_of what)))
+      (subst (λ (w : ℕ → Weak). Leaves z header s piece r what scene w values cells) (sym (members_weaks names lane members (object_of r))) leaves))
   tells_lane (lane_cmd.Root var on) has (h, same) =
       tells_of z header s names new names values cells _ piece r same refl
       (root z header s lane piece r calm known legal lawful schema points names values cells beside (Own_objects var) on h)

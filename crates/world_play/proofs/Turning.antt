@@ -1,7 +1,7 @@
 -- What a command of a lane needs, and what it leaves.
 use Rattle.std.proofs.Common.{◌≡◌, ℕ, ◌-◌, zero, suc, length, ◌==◌, ◌<◌, ◌&&◌, map, get_or, Bool, true, false, not, ◌||◌, cond, List, [], ◌∷◌, ◌++◌, filter, refl, sym, ap, ◌∙◌, subst, arith, inl, inr, ◌⊎◌, Option, Some, None, Result, Ok, Err}
 use Rattle.std.specs.Prelude.{nat_lt, slice_index, slice_get}
-use Rattle.std.specs.List.{list_any}
+use Rattle.std.specs.List.{list_any, AllByRecursion, All}
 use Rattle.std.proofs.lemmas.Bool.Decides.{nat_tests}
 use Rattle.world_model.specs.NameLists.{same_pass, same_weak, set_at}
 use Rattle.world_model.specs.World.{World, kind_of}
@@ -13,9 +13,10 @@ use Rattle.world_model.proofs.ListFacts.{and_true}
 use Rattle.class_schema.specs.Class.{Class}
 use Rattle.class_schema.specs.Table as table
 use Rattle.class_schema.specs.declared.field.FieldKind.{FieldKind}
+use Rattle.level_script.specs.Operands.{fits_members}
 use Rattle.world_play.specs.Header.{Header}
 use Rattle.world_play.specs.Text.{HasText}
-use Rattle.world_play.specs.Types.{Name, Ref, Weak, ClassId, Kind, CreateErr, Reply, Pass, Lane, Marker, Collector, Act, Entry, Cmd, LaneCmd, Spot, Field}
+use Rattle.world_play.specs.Types.{Name, Ref, Weak, ClassId, Kind, CreateErr, Reply, Pass, Lane, Marker, Collector, Act, Entry, Cmd, LaneCmd, Member, Spot, Field}
 use Rattle.world_play.specs.Types.act
 use Rattle.world_play.specs.Types.create
 use Rattle.world_play.specs.Types.reply
@@ -24,13 +25,14 @@ use Rattle.world_play.specs.Types.lane_cmd
 use Rattle.world_play.specs.Bindings.{Bindings}
 use Rattle.world_play.specs.Spots.{Kinds, Element, is_int, is_weak, field_of, kind_at, element_at, spot_at, may_refer, target_at, value_of, set_spot, get_spot, int_spot, weak_spot, told_kind, told_object}
 use Rattle.class_schema.specs.Layout.{is_ref}
-use Rattle.world_play.specs.Lanes.{Says, OnObject, OnElement, no_room, Makes, GivesPair, ReadsPair, object_of, LaneTurn}
+use Rattle.world_play.specs.Lanes.{Says, OnObject, OnElement, no_room, Makes, kinds_of, GivesPair, ReadsPair, object_of, LaneTurn}
 use Rattle.world_play.specs.Pairs.{no_pair, pair_in, has_serial, stored}
 use Rattle.word_layout.specs.Values.{weak_word}
 use Rattle.world_play.specs.Laws.{LaneClass, HasClass}
 use Rattle.world_play.specs.Plays.{frames_by, fits}
 use Rattle.world_play.specs.Turns.{frames_of, AreMade}
 use Rattle.world_play.specs.Variables.{Standing, HasVariable}
+use Rattle.world_play.proofs.Members.{lists_more, IsKind, one_kind, members_kinds, member_at, members_fit}
 
 -- ---- what a command that fits has
 
@@ -53,11 +55,25 @@ has_variable v lane lanes var b count h t = record { lane_there = fit_lane lane 
 pub second : (a b c : Bool) → ((a && b) && c) ≡ true → b ≡ true
 second a b c h = (and_true a b (and_first (a && b) c h)).1
 
+-- so are the members of a cluster
+pub cluster_fits : (lanes : ℕ) (vars : List ℕ) (header : Header) (opened : ℕ → Bool) (lane : ℕ) (members : List Member) → fits lanes vars header opened (cmd.Lane lane (lane_cmd.Cluster members)) ≡ true
+    → fits_members (slice_index vars lane) (length header.classes.classes) members ≡ true
+cluster_fits lanes vars header opened lane members h =
+    (and_true (opened lane) (fits_members (slice_index vars lane) (length header.classes.classes) members) (and_true (nat_lt lane lanes) _ h).1).1
+
+-- and their variables
+pub cluster_variables : (v : Standing) (lane lanes classes : ℕ) (members : List Member) (b : Bool) → length v.counts.lanes ≡ lanes → (nat_lt lane lanes && b) ≡ true
+    → fits_members (slice_index v.counts.lanes lane) classes members ≡ true → All (λ m. HasVariable v lane m.var) members
+cluster_variables v lane lanes classes members b count there fit k d lt =
+    has_variable v lane lanes (get_or members k d).var b count there (member_at (slice_index v.counts.lanes lane) classes members fit k d lt).0
+
 -- the class of a command that fits is there
 fit_class : (lanes : ℕ) (vars : List ℕ) (header : Header) (opened : ℕ → Bool) (lane : ℕ) (what : LaneCmd) → fits lanes vars header opened (cmd.Lane lane what) ≡ true → LaneClass header what
 fit_class lanes vars header opened lane (lane_cmd.New var class) h =
     let parts = and_true (nat_lt lane lanes) _ h in
     below class.0 (length header.classes.classes) (and_true (opened lane && nat_lt var (slice_index vars lane)) (nat_lt class.0 (length header.classes.classes)) parts.1).1
+fit_class lanes vars header opened lane (lane_cmd.Cluster members) h =
+    members_fit (slice_index vars lane) (length header.classes.classes) members (cluster_fits lanes vars header opened lane members h)
 fit_class lanes vars header opened lane what h = tt
 
 pub fits_class : (lanes : ℕ) (vars : List ℕ) (header : Header) (opened : ℕ → Bool) (what : Cmd) → fits lanes vars header opened what ≡ true → HasClass header what
@@ -73,31 +89,15 @@ made_on header old new same made = record {
   kind = λ n k e. made.kind n k (ap (λ (kinds : ℕ → List Kind). slice_get (kinds n.lane) (n.count - 1)) (sym same) ∙ e);
 }
 
--- an element of a list with one more is an element of the list, or the last
-last_or : {A : Type 0} (xs : List A) (x k : A) (i : ℕ) → slice_get (xs ++ x ∷ []) i ≡ Some k → (slice_get xs i ≡ Some k) ⊎ (k ≡ x)
-last_or [] x k zero e = inr (let same : x ≡ k = cc in sym same)
-last_or [] x k (suc i) e = absurd cc
-last_or (y ∷ xs) x k zero e = inl e
-last_or (y ∷ xs) x k (suc i) e = last_or xs x k i e
-
--- so they do where one more of such a kind is made
-pub made_more : (header : Header) (old new : World) (lane : ℕ) (kind : Kind) → new.kinds ≡ set_at old.kinds lane (old.kinds lane ++ kind ∷ [])
-    → kind.class.0 < length header.classes.classes → kind ≡ table.kind_of header.classes kind.class → AreMade header old → AreMade header new
-made_more header old new lane kind are small is made = record {
-  class = λ n k e. each (λ (k : Kind). k.class.0 < length header.classes.classes) small (made.class) n k e;
-  kind = λ n k e. each (λ (k : Kind). k ≡ table.kind_of header.classes k.class) is (made.kind) n k e;
-}
+-- so they do where a unit of such kinds is made
+pub made_more : (header : Header) (old new : World) (lane : ℕ) (kinds : List Kind) → new.kinds ≡ set_at old.kinds lane (old.kinds lane ++ kinds)
+    → AllByRecursion (IsKind header) kinds → AreMade header old → AreMade header new
+made_more header old new lane kinds are all made = record { class = λ n k e. (both n k e).0; kind = λ n k e. (both n k e).1 }
   where
-    each : (P : Kind → Type 0) → P kind → ((n : Name) (k : Kind) → kind_of old n ≡ Some k → P k) → (n : Name) (k : Kind) → kind_of new n ≡ Some k → P k
-    each P one others n k e = go (n.lane == lane) refl (ap (λ (kinds : ℕ → List Kind). slice_get (kinds n.lane) (n.count - 1)) (sym are) ∙ e)
-      where
-        from : (slice_get (old.kinds lane) (n.count - 1) ≡ Some k) ⊎ (k ≡ kind) → n.lane ≡ lane → P k
-        from (inl before) same = others n k (ap (λ (l : ℕ). slice_get (old.kinds l) (n.count - 1)) same ∙ before)
-        from (inr last) same = subst P (sym last) one
-
-        go : (b : Bool) → (n.lane == lane) ≡ b → slice_get (cond b (old.kinds lane ++ kind ∷ []) (old.kinds n.lane)) (n.count - 1) ≡ Some k → P k
-        go true t f = from (last_or (old.kinds lane) kind k (n.count - 1) f) (grind (arith, nat_tests, t))
-        go false t f = others n k f
+    both : (n : Name) (k : Kind) → kind_of new n ≡ Some k → IsKind header k
+    both n k e =
+        lists_more (IsKind header) old.kinds lane kinds all n.lane (n.count - 1) k (ap (λ (lists : ℕ → List Kind). slice_get (lists n.lane) (n.count - 1)) (sym are) ∙ e)
+        (λ f. (made.class n k f, made.kind n k f))
 
 -- ---- what a piece leaves
 
@@ -254,13 +254,13 @@ object_told header w lane (Some at) made = kind_told (kind_at w.kinds at) (made.
     kind_told None h = tt
     kind_told (Some kind) h = h kind refl
 
-refusal_stays : (s : State) (lane : ℕ) (why : CreateErr) → Stays s (by (Lane lane) (act_of_refusal 1 why ∷ []))
-refusal_stays s lane (create.Full free) = record { frames = refl; kinds = refl }
-refusal_stays s lane (create.NamesSpent left) = record { frames = refl; kinds = refl }
+refusal_stays : (s : State) (lane asked : ℕ) (why : CreateErr) → Stays s (by (Lane lane) (act_of_refusal asked why ∷ []))
+refusal_stays s lane asked (create.Full free) = record { frames = refl; kinds = refl }
+refusal_stays s lane asked (create.NamesSpent left) = record { frames = refl; kinds = refl }
 
-refusal_one : (s : State) (lane : ℕ) (why : CreateErr) (acts : List Act) → CallOf s (Lane lane) (act_of_refusal 1 why) acts → acts ≡ act_of_refusal 1 why ∷ []
-refusal_one s lane (create.Full free) acts call = call.0
-refusal_one s lane (create.NamesSpent left) acts call = call.0
+refusal_one : (s : State) (lane asked : ℕ) (why : CreateErr) (acts : List Act) → CallOf s (Lane lane) (act_of_refusal asked why) acts → acts ≡ act_of_refusal asked why ∷ []
+refusal_one s lane asked (create.Full free) acts call = call.0
+refusal_one s lane asked (create.NamesSpent left) acts call = call.0
 
 no_room_text : (classes : List Class) (lane : ℕ) (why : CreateErr) → HasText classes (no_room lane why)
 no_room_text classes lane (create.Full free) = tt
@@ -275,21 +275,20 @@ pub first_name : (out : List Ref) (d : Ref) (n : Name) → map (λ r. r.name) ou
 first_name [] d n e = absurd cc
 first_name (r ∷ rs) d n e = cc
 
-make_leaves : (header : Header) (s : State) (lane var : ℕ) (class : ClassId) (piece : List Entry) (r : Reply)
-    → class.0 < length header.classes.classes → AreMade header s.world → Makes s lane (table.kind_of header.classes class) piece r
-    → Leaves header s lane (lane_cmd.New var class) piece r
-make_leaves header s lane var class piece r small made (inl (count, (acts, call, is), tells)) =
-    let kind : Kind = table.kind_of header.classes class in
-    let a : Act = act.Make (kind ∷ []) count in
+make_leaves : (header : Header) (s : State) (lane : ℕ) (what : LaneCmd) (kinds : List Kind) (told : Name → Reply) (piece : List Entry) (r : Reply)
+    → frames_by (frames_of s.world) (cmd.Lane lane what) ≡ frames_of s.world → ((n : Name) → HasText header.classes.classes (told n))
+    → AllByRecursion (IsKind header) kinds → AreMade header s.world → Makes s lane kinds told piece r → Leaves header s lane what piece r
+make_leaves header s lane what kinds told piece r same text all made (inl (count, (acts, call, is), tells)) =
+    let a : Act = act.Make kinds count in
     record {
-      frames = alone (λ es. frames_of (run s es).world ≡ frames_of s.world) lane a piece acts call.0 is refl;
-      made = alone (λ es. AreMade header (run s es).world) lane a piece acts call.0 is (made_more header s.world (run s (by (Lane lane) (a ∷ []))).world lane kind refl small refl made);
-      told = plain header.classes.classes r (reply.New lane (record { lane = lane; count = count })) tt tells;
+      frames = alone (λ es. frames_of (run s es).world ≡ frames_of s.world) lane a piece acts call.0 is refl ∙ sym same;
+      made = alone (λ es. AreMade header (run s es).world) lane a piece acts call.0 is (made_more header s.world (run s (by (Lane lane) (a ∷ []))).world lane kinds refl all made);
+      told = plain header.classes.classes r (told (record { lane = lane; count = count })) (text (record { lane = lane; count = count })) tells;
     }
-make_leaves header s lane var class piece r small made (inr (why, (acts, call, is), tells)) =
-    still header s lane piece r (lane_cmd.New var class) refl made
-    (one_answers header s lane piece r (act_of_refusal 1 why) acts (no_room lane why) (no_room_text header.classes.classes lane why)
-    (refusal_one s lane why acts call) is tells (refusal_stays s lane why))
+make_leaves header s lane what kinds told piece r same text all made (inr (why, (acts, call, is), tells)) =
+    still header s lane piece r what same made
+    (one_answers header s lane piece r (act_of_refusal (length kinds) why) acts (no_room lane why) (no_room_text header.classes.classes lane why)
+    (refusal_one s lane (length kinds) why acts call) is tells (refusal_stays s lane (length kinds) why))
 
 -- each command of a lane
 pub lane_leaves : (header : Header) (s : State) (names new : Bindings) (lane : ℕ) (what : LaneCmd) (piece : List Entry) (r : Reply)
@@ -304,7 +303,11 @@ lane_leaves header s names new lane lane_cmd.Close piece r class made ((acts, ca
   made = alone (λ es. AreMade header (run s es).world) lane act.FrameClose piece acts call.0 is (made_on header s.world (run s (by (Lane lane) (act.FrameClose ∷ []))).world refl made);
   told = plain header.classes.classes r (reply.Closed lane) tt tells;
 }
-lane_leaves header s names new lane (lane_cmd.New var class) piece r small made h = make_leaves header s lane var class piece r small made h.0
+lane_leaves header s names new lane (lane_cmd.New var class) piece r small made h =
+    make_leaves header s lane (lane_cmd.New var class) (table.kind_of header.classes class ∷ []) (reply.New lane) piece r refl (λ n. tt) (one_kind header class small) made h.0
+lane_leaves header s names new lane (lane_cmd.Cluster members) piece r small made h =
+    make_leaves header s lane (lane_cmd.Cluster members) (kinds_of header members) (λ first. reply.Cluster lane first (length members)) piece r refl (λ n. tt)
+    (members_kinds header members small) made h.0
 lane_leaves header s names new lane (lane_cmd.Root var on) piece r class made h =
     still header s lane piece r (lane_cmd.Root var on) refl made
     (on_object header s lane piece r (names.objects lane var) _

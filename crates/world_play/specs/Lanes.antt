@@ -1,17 +1,17 @@
 -- What a command of a lane is: one relation of its entries, its reply and the variables that it leaves, given the state and the variables before.
-use Rattle.std.specs.Prelude.{◌≡◌, ℕ, ◌⊎◌, List, [], ◌∷◌, Option, Some, None, Result, Ok, Err}
+use Rattle.std.specs.Prelude.{◌≡◌, ℕ, ◌⊎◌, List, [], ◌∷◌, length, map, Option, Some, None, Result, Ok, Err}
 use Rattle.world_model.specs.State.{State}
 use Rattle.world_model.specs.Calls.{by, CallOf}
 use Rattle.world_model.specs.Engines.{act_of_refusal}
 use Rattle.class_schema.specs.Table.{kind_of}
 use Rattle.world_model.specs.NameLists.{same_weak}
-use Rattle.world_play.specs.Types.{Name, Weak, Kind, CreateErr, Pass, Lane, Act, Entry, Reply, LaneCmd}
+use Rattle.world_play.specs.Types.{Name, Weak, Kind, CreateErr, Pass, Lane, Act, Entry, Reply, LaneCmd, Member}
 use Rattle.world_play.specs.Types.act
 use Rattle.world_play.specs.Types.create
 use Rattle.world_play.specs.Types.reply
 use Rattle.world_play.specs.Types.lane_cmd
 use Rattle.world_play.specs.Header.{Header}
-use Rattle.world_play.specs.Bindings.{Bindings, bound, weak_bound, ended}
+use Rattle.world_play.specs.Bindings.{Bindings, bound, members_bound, weak_bound, ended}
 use Rattle.world_play.specs.Pairs.{no_pair, pair_in, has_serial, forged, stored}
 use Rattle.world_play.specs.Spots.{Element, value_of, set_spot, get_spot, int_spot, weak_spot, told_object}
 use Rattle.word_layout.specs.Values.{weak_word}
@@ -45,11 +45,15 @@ abbrev pub no_room : ℕ → CreateErr → Reply
 no_room lane (create.Full free) = reply.Full lane free
 no_room lane (create.NamesSpent left) = reply.NamesSpent lane left
 
--- an object of this kind was made, or refused
-abbrev pub Makes : State → ℕ → Kind → List Entry → Reply → Type 0
-Makes s lane kind piece r =
-    Calls s lane (λ count. act.Make (kind ∷ []) count) (λ count. reply.New lane (record { lane = lane; count = count })) piece r
-    ⊎ Calls s lane (λ why. act_of_refusal 1 why) (λ why. no_room lane why) piece r
+-- a unit of objects of these kinds was made, and so its first member is told, or it was refused
+abbrev pub Makes : State → ℕ → List Kind → (Name → Reply) → List Entry → Reply → Type 0
+Makes s lane kinds told piece r =
+    Calls s lane (λ count. act.Make kinds count) (λ count. told (record { lane = lane; count = count })) piece r
+    ⊎ Calls s lane (λ why. act_of_refusal (length kinds) why) (λ why. no_room lane why) piece r
+
+-- the kinds of the members of a cluster
+abbrev pub kinds_of : Header → List Member → List Kind
+kinds_of header members = map (λ m. kind_of header.classes m.class) members
 
 -- the weak pointer to the object of a variable was given, which is this pair, or refused; where it is refused, and where the variable stands for no object, the pair is the empty one
 abbrev pub GivesPair : State → ℕ → Option Name → Weak → List Entry → Reply → Type 0
@@ -66,9 +70,10 @@ ReadsPair s lane (Ok e) pair piece r =
 
 -- ---- commands
 
--- the object that a reply gives
+-- the object that a reply gives, of a cluster its first member
 abbrev pub object_of : Reply → Option Name
 object_of (reply.New lane n) = Some n
+object_of (reply.Cluster lane first count) = Some first
 object_of (reply.Is lane got) = got
 object_of _ = None
 
@@ -79,7 +84,10 @@ LaneTurn header s names lane lane_cmd.Open piece r new =
 LaneTurn header s names lane lane_cmd.Close piece r new =
     OneCall s (Lane lane) act.FrameClose piece × (r ≡ reply.Closed lane) × (new ≡ ended names lane)
 LaneTurn header s names lane (lane_cmd.New var class) piece r new =
-    Makes s lane (kind_of header.classes class) piece r × (new ≡ bound names lane var (object_of r))
+    Makes s lane (kind_of header.classes class ∷ []) (reply.New lane) piece r × (new ≡ bound names lane var (object_of r))
+LaneTurn header s names lane (lane_cmd.Cluster members) piece r new =
+    Makes s lane (kinds_of header members) (λ first. reply.Cluster lane first (length members)) piece r
+    × (new ≡ members_bound names lane members (object_of r))
 LaneTurn header s names lane (lane_cmd.Root var on) piece r new =
     OnObject lane (names.objects lane var) (λ n. Calls s lane (λ was. act.Root n on was) (λ was. reply.WasRoot lane was)) piece r × (new ≡ names)
 LaneTurn header s names lane (lane_cmd.Set spot to) piece r new =

@@ -14,9 +14,10 @@ use Rattle.world_play.specs.Bindings.{Bindings, no_bindings}
 use Rattle.world_play.specs.Plays.{Plays, text, entries_of}
 use Rattle.world_play.specs.Outcome.{outcome}
 
--- the class of an object that the command makes is one of the table
+-- the class of each object that the command makes is one of the table
 abbrev pub LaneClass : Header → LaneCmd → Type 0
 LaneClass header (lane_cmd.New var class) = class.0 < length header.classes.classes
+LaneClass header (lane_cmd.Cluster members) = AllByRecursion (λ m. m.class.0 < length header.classes.classes) members
 LaneClass header _ = Unit {0}
 
 abbrev pub HasClass : Header → Cmd → Type 0

@@ -3,7 +3,7 @@
 -- A new part of the world is added in `Scene`, in `first_scene` and, for the proofs, in `scene_of` (proofs/Removing); a new command is one line of `lane_outcome` or `gc_outcome`.
 use Rattle.std.specs.Prelude.{ℕ, ◌+◌, ◌-◌, ◌==◌, nat_lt, Bool, true, false, not, ◌&&◌, ◌||◌, ◌%◌, if◌then◌else◌, List, [], ◌∷◌, ◌++◌, length, filter, Option, Some, None, Result, Ok, Err}
 use Rattle.std.specs.List.{list_any, count_by, range_with_len}
-use Rattle.world_model.specs.NameLists.{same_name, same_pass, has, members, set_at, set_name}
+use Rattle.world_model.specs.NameLists.{same_name, same_pass, has, members, names_from, set_at, set_name}
 use Rattle.world_model.specs.Sizes.{Sizes}
 use Rattle.class_schema.specs.Table.{kind_of}
 use Rattle.world_model.specs.Reach.{Graph}
@@ -16,10 +16,10 @@ use Rattle.world_play.specs.Types.cmd
 use Rattle.world_play.specs.Types.lane_cmd
 use Rattle.world_play.specs.Types.gc_cmd
 use Rattle.world_play.specs.Text.{in_name_order}
-use Rattle.world_play.specs.Bindings.{bound, weak_bound, ended}
+use Rattle.world_play.specs.Bindings.{bound, members_bound, weak_bound, ended}
 use Rattle.world_play.specs.Pairs.{stored}
 use Rattle.world_play.specs.Values.{Value, Nothing, Number, Own, Forged, number_of, pair_of, is_pair, same_value, Seen, first_seen}
-use Rattle.world_play.specs.Lanes.{object_of}
+use Rattle.world_play.specs.Lanes.{kinds_of, object_of}
 use Rattle.world_play.specs.Plays.{text}
 
 -- what the lines of a whole script see of the world
@@ -42,7 +42,7 @@ pub record Scene : Type 0 where
 abbrev pub first_scene : Scene
 first_scene = record { kinds = λ lane. []; cell = λ n slot. None; units = []; rooted = λ n. false; strong = λ lane number. None; paired = λ n. false; drawn = λ lane. 0; opened = [] }
 
--- ---- a lane makes an object
+-- ---- a lane makes objects
 
 -- how many objects a lane has made, how many names it has left, and how many of its indexes are free
 abbrev pub made : Scene → ℕ → ℕ
@@ -58,15 +58,19 @@ free z c lane = z.quota - count_by (λ n. n.lane == lane) (members c.units)
 abbrev pub next_name : Scene → ℕ → Name
 next_name c lane = record { lane = lane; count = made c lane + 1 }
 
--- a name that is left is looked for first, and a free index then
-abbrev pub new_reply : Sizes → Scene → ℕ → Reply
-new_reply z c lane = if nat_lt (names_left z c lane) 1 then reply.NamesSpent lane (names_left z c lane)
-    else (if nat_lt (free z c lane) 1 then reply.Full lane (free z c lane) else reply.New lane (next_name c lane))
+-- what a lane is told that makes a unit of so many objects: names that are left are looked for first, and free indexes then
+abbrev pub make_reply : Sizes → Scene → ℕ → ℕ → (Name → Reply) → Reply
+make_reply z c lane count told = if nat_lt (names_left z c lane) count then reply.NamesSpent lane (names_left z c lane)
+    else (if nat_lt (free z c lane) count then reply.Full lane (free z c lane) else told (next_name c lane))
 
--- the object that was made is a unit of its own
-abbrev pub with_object : Scene → ℕ → Kind → Reply → Scene
-with_object c lane kind (reply.New l n) = record c { kinds = set_at c.kinds lane (c.kinds lane ++ kind ∷ []); units = c.units ++ (n ∷ []) ∷ [] }
-with_object c lane kind r = c
+-- the objects that were made are one unit
+abbrev pub with_made : Scene → ℕ → List Kind → Scene
+with_made c lane kinds = record c { kinds = set_at c.kinds lane (c.kinds lane ++ kinds); units = c.units ++ names_from lane (made c lane + 1) kinds ∷ [] }
+
+abbrev pub with_unit : Scene → ℕ → List Kind → Reply → Scene
+with_unit c lane kinds (reply.New l n) = with_made c lane kinds
+with_unit c lane kinds (reply.Cluster l first count) = with_made c lane kinds
+with_unit c lane kinds r = c
 
 -- ---- an object joins or leaves the root set
 
@@ -198,7 +202,11 @@ abbrev pub lane_outcome : Sizes → Header → Scene → Seen → ℕ → LaneCm
 lane_outcome z header c seen lane lane_cmd.Open = answers seen (reply.Opened lane Idle) (record c { opened = Lane lane ∷ c.opened })
 lane_outcome z header c seen lane lane_cmd.Close =
     answers (record seen { names = ended seen.names lane }) (reply.Closed lane) (record c { opened = filter (λ q. not (same_pass (Lane lane) q)) c.opened })
-lane_outcome z header c seen lane (lane_cmd.New var class) = let r = new_reply z c lane in binds seen lane var r (with_object c lane (kind_of header.classes class) r)
+lane_outcome z header c seen lane (lane_cmd.New var class) =
+    let r = make_reply z c lane 1 (reply.New lane) in binds seen lane var r (with_unit c lane (kind_of header.classes class ∷ []) r)
+lane_outcome z header c seen lane (lane_cmd.Cluster members) =
+    let r = make_reply z c lane (length members) (λ first. reply.Cluster lane first (length members)) in
+    answers (record seen { names = members_bound seen.names lane members (object_of r) }) r (with_unit c lane (kinds_of header members) r)
 lane_outcome z header c seen lane (lane_cmd.Root var on) = answers seen (root_reply c lane (seen.names.objects lane var)) (with_root c (seen.names.objects lane var) on)
 lane_outcome z header c seen lane (lane_cmd.Set spot to) =
     let e = set_spot header c.kinds lane (seen.names.objects lane) spot to in

@@ -57,6 +57,7 @@ abbrev pub text_of : List Class → Reply → List ℕ
 text_of classes (reply.Opened lane phase) = decimal lane ++ (codes " open " ++ (phase_text phase ++ codes "\n"))
 text_of classes (reply.Closed lane) = decimal lane ++ codes " close\n"
 text_of classes (reply.New lane n) = decimal lane ++ (codes " new " ++ (decimal n.lane ++ (codes ":" ++ (decimal n.count ++ codes "\n"))))
+text_of classes (reply.Cluster lane n count) = decimal lane ++ (codes " cluster " ++ (decimal n.lane ++ (codes ":" ++ (decimal n.count ++ (codes " " ++ (decimal count ++ codes "\n"))))))
 text_of classes (reply.Full lane free) = decimal lane ++ (codes " full " ++ (decimal free ++ codes "\n"))
 text_of classes (reply.NamesSpent lane left) = decimal lane ++ (codes " names spent " ++ (decimal left ++ codes "\n"))
 text_of classes (reply.WasRoot lane was) = decimal lane ++ (codes " was " ++ ((if was then codes "on" else codes "off") ++ codes "\n"))

@@ -36,6 +36,7 @@ pub use Rattle.level_script.specs.declared.script.Cmd.{Cmd}
 pub use Rattle.level_script.specs.declared.script.Cmd.TheVariants as cmd
 pub use Rattle.level_script.specs.declared.lane_cmd.LaneCmd.{LaneCmd}
 pub use Rattle.level_script.specs.declared.lane_cmd.LaneCmd.TheVariants as lane_cmd
+pub use Rattle.level_script.specs.declared.lane_cmd.Member.{Member}
 pub use Rattle.level_script.specs.declared.script.GcCmd.{GcCmd}
 pub use Rattle.level_script.specs.declared.script.GcCmd.TheVariants as gc_cmd
 pub use Rattle.level_script.specs.declared.script.Spot.{Spot}

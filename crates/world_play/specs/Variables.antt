@@ -1,7 +1,7 @@
 -- What the variables of the player show.
-use Rattle.std.specs.Prelude.{◌≡◌, ◌<◌, ℕ, List, length, map, slice_get, slice_index, slice_index_or, Option, Some, None, option_and_then, option_map}
+use Rattle.std.specs.Prelude.{◌≡◌, ◌<◌, ℕ, List, [], ◌∷◌, length, map, slice_get, slice_index, slice_index_or, Option, Some, None, option_and_then, option_map}
 use Rattle.world_model.specs.NameLists.{set_at}
-use Rattle.world_play.specs.Types.{Ref, Weak}
+use Rattle.world_play.specs.Types.{Ref, Weak, Member}
 use Rattle.world_play.specs.Pairs.{no_pair}
 use Rattle.world_model.specs.Engines.{Holdings}
 use Rattle.world_play.specs.Bindings.{Bindings}
@@ -29,6 +29,17 @@ unbound counts weaks = record { refs = λ lane var. None; weaks = λ weak. no_pa
 -- one variable stands for another object, or for none
 abbrev pub with_ref : Standing → ℕ → ℕ → Option Ref → Standing
 with_ref v lane var to = record { refs = set_at v.refs lane (set_at (v.refs lane) var to); weaks = v.weaks; counts = v.counts }
+
+-- the variables of the members of a cluster stand for these objects in order
+abbrev pub with_members : Standing → ℕ → List Member → List Ref → Standing
+with_members v lane [] refs = v
+with_members v lane (m ∷ members) [] = v
+with_members v lane (m ∷ members) (r ∷ refs) = with_members (with_ref v lane m.var (Some r)) lane members refs
+
+-- they stand for none
+abbrev pub without_members : Standing → ℕ → List Member → Standing
+without_members v lane [] = v
+without_members v lane (m ∷ members) = without_members (with_ref v lane m.var None) lane members
 
 -- one weak variable has another pair
 abbrev pub with_weak : Standing → ℕ → Weak → Standing

@@ -95,7 +95,10 @@ fn find_field<S: Shape, E: Engine<S>>(
     let Some(name) = header.fields.get(spot.field) else {
         return Err(Reply::NoField(lane));
     };
-    match header.classes.find_field(kind.class, name) {
+    match header
+        .classes
+        .find_field_hinted(kind.class, name, spot.field)
+    {
         Some(field) => Ok(Found { at, field }),
         None => Err(Reply::NoField(lane)),
     }

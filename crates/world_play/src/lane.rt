@@ -12,17 +12,19 @@ use crate::cells::{get, load, put, set, store, take};
 use crate::header::Header;
 use crate::pointers::{forged, held, hold, resolve, same_weak, weak};
 use crate::reply::Reply;
+use crate::units::cluster;
 use crate::variables::Variables;
 use level_script::LaneCmd;
 use world_model::{ClassId, CreateErr, Engine, Name, Ref, Shape};
 
 /// What stands in a buffer before an object is made.
-const NO_REF: Ref = Ref {
+pub(crate) const NO_REF: Ref = Ref {
     index: 0,
     name: Name { lane: 0, count: 0 },
 };
 
-fn no_room(lane: u32, why: CreateErr) -> Reply
+/// Why no object was made, as it is told.
+pub(crate) fn no_room(lane: u32, why: CreateErr) -> Reply
     ensures { result ≡ no_room lane why }
 {
     match why {
@@ -120,6 +122,9 @@ pub(crate) fn lane_turn<S: Shape, E: Engine<S>>(
             Reply::Closed(lane)
         }
         LaneCmd::New { var, class } => make::<S, E>(engine, header, variables, lane, *var, *class),
+        LaneCmd::Cluster { members } => {
+            cluster::<S, E>(engine, header, variables, lane, members.as_slice())
+        }
         LaneCmd::Root { var, on } => root::<S, E>(engine, variables, lane, *var, *on),
         LaneCmd::Set { spot, to } => set::<S, E>(engine, header, variables, lane, *spot, *to),
         LaneCmd::Get { var, spot } => get::<S, E>(engine, header, variables, lane, *var, *spot),

@@ -23,6 +23,7 @@ mod status;
 mod stream;
 mod text;
 mod turn;
+mod units;
 mod variables;
 mod words;
 

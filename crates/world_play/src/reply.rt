@@ -11,6 +11,8 @@ pub enum Reply {
     Closed(u32),
     /// The object that was made.
     New(u32, Name),
+    /// The first member of the cluster that was made, and how many members it has.
+    Cluster(u32, Name, u32),
     /// Nothing was made, since so many indexes are free.
     Full(u32, u32),
     /// Nothing was made, since so many names are left.

@@ -89,6 +89,16 @@ fn push_new(text: &mut String, lane: u32, name: Name) -> Result<(), AllocError>
     write!(text, "{lane} new {}:{}\n", name.lane, name.count)
 }
 
+fn push_cluster(text: &mut String, lane: u32, first: Name, count: u32) -> Result<(), AllocError>
+    ensures { OnOk result (string_bytes text.new ≡ string_bytes text.old ++ decimal lane ++ (codes " cluster " ++ (decimal first.lane ++ (codes ":" ++ (decimal first.count ++ (codes " " ++ (decimal count ++ codes "\n"))))))) }
+{
+    write!(
+        text,
+        "{lane} cluster {}:{} {count}\n",
+        first.lane, first.count
+    )
+}
+
 fn push_numbered(text: &mut String, words: &str, number: u32) -> Result<(), AllocError>
     ensures { OnOk result (string_bytes text.new ≡ string_bytes text.old ++ words.now ++ (decimal number ++ codes "\n")) }
 {
@@ -169,6 +179,7 @@ pub(crate) fn push_line(
         Reply::Opened(lane, phase) => push_opened(text, *lane, *phase),
         Reply::Closed(lane) => push_worded(text, *lane, " close\n"),
         Reply::New(lane, name) => push_new(text, *lane, *name),
+        Reply::Cluster(lane, first, count) => push_cluster(text, *lane, *first, *count),
         Reply::Full(lane, free) => write!(text, "{lane} full {free}\n"),
         Reply::NamesSpent(lane, left) => push_names_spent(text, *lane, *left),
         Reply::WasRoot(lane, was) => push_was_root(text, *lane, *was),

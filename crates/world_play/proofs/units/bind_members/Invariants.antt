@@ -1,0 +1,8 @@
+use Rattle.std.proofs.Common.{◌≡◌, drop}
+use Rattle.world_play.specs.Variables.{standing, with_members}
+use Rattle.world_play.proofs.units.bind_members.Given as goal
+
+abbrev pub invariant-loop-i : goal.invariant-loop-i
+invariant-loop-i l =
+    ((standing l.variables).counts ≡ (standing l.fn.variables).counts)
+    × (with_members (standing l.variables) l.lane (drop l.i l.members) (drop l.i l.refs) ≡ with_members (standing l.fn.variables) l.lane l.members l.refs)
