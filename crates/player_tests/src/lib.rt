@@ -8,10 +8,16 @@
 #[cfg(test)]
 mod cells;
 #[cfg(test)]
+mod clusters;
+#[cfg(test)]
 mod faults;
 #[cfg(test)]
 mod pointers;
 #[cfg(test)]
+mod rows;
+#[cfg(test)]
 mod runs;
+#[cfg(test)]
+mod webs;
 #[cfg(test)]
 mod words;

@@ -1,19 +1,7 @@
 //! Whole runs of scripts with strong and weak pointers, with the texts that the language gives them. A slash separates
 //! lines.
 
-use crate::words::split;
-use play_io::{SureSink, SureSource};
-use std::alloc::Global;
-use std::thread::Threads;
-use world_play::{Status, run_in_memory};
-
-/// A script, and what it writes.
-#[derive(Clone, Copy)]
-struct Row {
-    words: &'static str,
-    script: &'static str,
-    text: &'static str,
-}
+use crate::rows::{Row, is_written};
 
 const ROWS: [Row; 11] = [
     // pairs: one pair for all who ask, and forged ones, which give nothing
@@ -83,29 +71,6 @@ const ROWS: [Row; 11] = [
         text: "0 open idle / 0 new 0:1 / 0 was none / 0 new 0:2 / 0 was none / 0 weak 0:1 / 0 was none / 0 close / gc full removed 0 left 0 / 0 open idle / 0 is 0:2 / 0 is weak / 0 is 0:1 / 0 was 0:1 / 0 close / gc full removed 1 left 0: 0:1 / 0 open idle / 0 is 0:2 / 0 is weak / 0 is none / 0 close",
     },
 ];
-
-/// The lines of a text in which a slash separates them.
-fn as_lines(alloc: Global, text: &str) -> Option<String> {
-    let mut lines = String::new(alloc);
-    for line in text.split(" / ") {
-        lines.push_str(line).ok()?;
-        lines.push_str("\n").ok()?;
-    }
-    Some(lines)
-}
-
-/// Whether a row's script writes its text, and all is well.
-fn is_written<R: Threads + Sync>(rt: &R, alloc: Global, row: Row) -> Option<bool> {
-    let words = split(alloc, row.words).ok()?;
-    let script = as_lines(alloc, row.script)?;
-    let text = as_lines(alloc, row.text)?;
-    let mut bytes = Vec::new(alloc);
-    bytes.extend_from_slice(script.as_bytes()).ok()?;
-    let mut source = SureSource::new(bytes, 4096);
-    let mut sink = SureSink::new(alloc, 4096);
-    let ended = run_in_memory(rt, alloc, words.as_slice(), &mut source, &mut sink);
-    Some(ended.status == Status::Ok && sink.bytes() == text.as_bytes())
-}
 
 #[test]
 fn strong_and_weak_pointers(rt: HostRuntime) {
