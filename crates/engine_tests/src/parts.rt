@@ -7,7 +7,7 @@ ghost use Rattle.world_model.specs.Engines.{KeepsHeld};
 ghost use Rattle.heap_plain.specs.Types.{Lane};
 ghost use Rattle.heap_plain.specs.Parts.{Holds};
 
-use crate::heaps::{NOBODY, NOTHING, PLAIN};
+use crate::heaps::{NOBODY, NOTHING, PLAIN, named};
 use heap_plain::PlainHeap;
 use std::process::Abort;
 use std::test::Fail;
@@ -50,6 +50,41 @@ fn dissolve<S: Shape>(rt: &impl Abort, heap: &mut PlainHeap<S>, at: Ref) -> Resu
 {
     assert_eq!(rt; at.name.lane, 0);
     heap.dissolve(0, at)
+}
+
+/// What lane 0 is told of the unit of an object in its open frame: its first member, and the member number `k`.
+fn tells<S: Shape>(heap: &mut PlainHeap<S>, at: Ref, k: u32) -> (Name, Option<Name>)
+    requires lane { 0 < S.sizes.lanes }
+    requires opened { (after heap.old.history).opened ≡ Lane 0 ∷ [] }
+    requires at { Holds heap.old 0 at }
+    ensures opened { (after heap.new.history).opened ≡ Lane 0 ∷ [] }
+    ensures keeps { KeepsHeld (Holds heap.old) (Holds heap.new) }
+{
+    let first = heap.unit_of(0, at);
+    match heap.member(0, at, k) {
+        Some(member) => (first, Some(member.name)),
+        None => (first, None),
+    }
+}
+
+#[test]
+fn a_unit_tells_its_members(rt: HostRuntime) -> Result<(), Fail> {
+    let mut heap = PlainHeap::<Small>::new(rt.alloc())?;
+    let mut cluster = [NOTHING; 3];
+    open_with(&rt, &mut heap, Phase::Idle, &[PLAIN; 3], &mut cluster);
+    assert_eq!(rt; tells(&mut heap, cluster[1], 2), (named(1), Some(named(3))));
+    assert_eq!(rt; tells(&mut heap, cluster[2], 3), (named(1), None));
+    Ok(())
+}
+
+#[test]
+fn a_member_of_a_unit_that_was_taken_apart_is_one(rt: HostRuntime) -> Result<(), Fail> {
+    let mut heap = PlainHeap::<Small>::new(rt.alloc())?;
+    let mut cluster = [NOTHING; 3];
+    open_with(&rt, &mut heap, Phase::Idle, &[PLAIN; 3], &mut cluster);
+    assert_eq!(rt; dissolve(&rt, &mut heap, cluster[0]), Ok(3));
+    assert_eq!(rt; tells(&mut heap, cluster[2], 0), (named(3), Some(named(3))));
+    Ok(())
 }
 
 #[test]
