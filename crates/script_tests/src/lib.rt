@@ -9,6 +9,8 @@
 #[cfg(test)]
 mod classes;
 #[cfg(test)]
+mod clusters;
+#[cfg(test)]
 mod faults;
 #[cfg(test)]
 mod fields;

@@ -48,6 +48,7 @@ fn cause(word: &str, a: u32, b: u32) -> Option<Cause> {
         "number" => Some(Cause::Number),
         "frame" => Some(Cause::Frame),
         "name" => Some(Cause::UnknownName),
+        "twice" => Some(Cause::NameTwice),
         "taken" => Some(Cause::Schema(SchemaErr::NameTaken(a))),
         "parent" => Some(Cause::Schema(SchemaErr::NoParent)),
         "children" => Some(Cause::Schema(SchemaErr::HasChildren)),

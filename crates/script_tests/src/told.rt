@@ -1,6 +1,6 @@
 //! A script that was read, as a text: `0 set a.n[1] b` in line 7 is told as `7: 0 set v0.f1[1] v1`, with the numbers of
 //! variables, fields and classes in place of their names.
-use level_script::{Cmd, GcCmd, LaneCmd, Line, Script, Spot};
+use level_script::{Cmd, GcCmd, LaneCmd, Line, Member, Script, Spot};
 use std::alloc::{AllocError, Global};
 
 fn element(alloc: Global, spot: Spot) -> Result<String, AllocError> {
@@ -62,20 +62,32 @@ fn hold(alloc: Global, h: u32, to: Option<u32>) -> Result<String, AllocError> {
     }
 }
 
-fn command(alloc: Global, cmd: LaneCmd) -> Result<String, AllocError> {
+fn cluster(alloc: Global, members: &[Member]) -> Result<String, AllocError> {
+    let mut text = String::from_str(alloc, "cluster")?;
+    for member in members {
+        let var = member.var;
+        let class = member.class.0;
+        let said = format!(in alloc; " v{var}:c{class}")?;
+        text.push_str(said.as_str())?;
+    }
+    Ok(text)
+}
+
+fn command(alloc: Global, cmd: &LaneCmd) -> Result<String, AllocError> {
     match cmd {
         LaneCmd::Open => String::from_str(alloc, "open"),
         LaneCmd::Close => String::from_str(alloc, "close"),
-        LaneCmd::New { var, class } => new(alloc, var, class.0),
-        LaneCmd::Root { var, on } => root(alloc, var, on),
-        LaneCmd::Set { spot, to } => set(alloc, spot, to),
-        LaneCmd::Get { var, spot } => get(alloc, var, spot),
-        LaneCmd::Put { spot, value } => put(alloc, spot, value),
-        LaneCmd::Take { spot } => take(alloc, spot),
+        LaneCmd::New { var, class } => new(alloc, *var, class.0),
+        LaneCmd::Cluster { members } => cluster(alloc, members.as_slice()),
+        LaneCmd::Root { var, on } => root(alloc, *var, *on),
+        LaneCmd::Set { spot, to } => set(alloc, *spot, *to),
+        LaneCmd::Get { var, spot } => get(alloc, *var, *spot),
+        LaneCmd::Put { spot, value } => put(alloc, *spot, *value),
+        LaneCmd::Take { spot } => take(alloc, *spot),
         LaneCmd::Print { var } => format!(in alloc; "print v{var}"),
-        LaneCmd::Store { spot, weak } => store(alloc, spot, weak),
-        LaneCmd::Load { weak, spot } => load(alloc, weak, spot),
-        LaneCmd::Hold { h, to } => hold(alloc, h, to),
+        LaneCmd::Store { spot, weak } => store(alloc, *spot, *weak),
+        LaneCmd::Load { weak, spot } => load(alloc, *weak, *spot),
+        LaneCmd::Hold { h, to } => hold(alloc, *h, *to),
         LaneCmd::Held { var, h } => format!(in alloc; "held v{var} {h}"),
         LaneCmd::Weak { weak, var } => format!(in alloc; "weak w{weak} v{var}"),
         LaneCmd::Resolve { var, weak } => format!(in alloc; "resolve v{var} w{weak}"),
@@ -87,7 +99,7 @@ fn command(alloc: Global, cmd: LaneCmd) -> Result<String, AllocError> {
 /// A line of a script.
 pub(crate) fn told_line(alloc: Global, line: &Line) -> Result<String, AllocError> {
     let number = line.number;
-    match line.cmd {
+    match &line.cmd {
         Cmd::Lane(lane, cmd) => {
             let said = command(alloc, cmd)?;
             format!(in alloc; "{number}: {lane} {said}")
