@@ -84,6 +84,19 @@ def churn(objects, count):
     return lines
 
 
+def clusters(size, count):
+    """Each lane is filled with clusters of so many members; the first is rooted, and the last member of each refers to the next."""
+    lines = list(HEADER)
+    for lane in range(LANES):
+        lines.append(f"{lane} open")
+        for k in range(8192 // size):
+            new, last = ("a", "b") if k % 2 == 0 else ("b", "a")
+            lines.append(f"{lane} cluster " + " ".join(f"{new}{m}:Node" for m in range(size)))
+            lines.append(f"{lane} set {last}{size - 1}.next {new}0" if k > 0 else f"{lane} root {new}0 on")
+        lines.append(f"{lane} close")
+    return lines + collections(count)
+
+
 def short_lines(total, _):
     """Stores and loads over a few variables."""
     lines = HEADER + ["0 open"] + [f"0 new v{k} Node" for k in range(16)]
@@ -209,6 +222,11 @@ def main():
             some, few = make(objects, count + 1), make(objects, 1)
             times = [max(a - b, 0) for a, b in zip(best(programs, some), best(programs, few))]
             show(name, objects, len(few), times, f"live object and collection, of {count}", objects * count)
+    for size in (1, 8, 64, 1_024):
+        count = 200
+        some, few = clusters(size, count + 1), clusters(size, 1)
+        times = [max(a - b, 0) for a, b in zip(best(programs, some), best(programs, few))]
+        show("clusters", size, len(few), times, f"live object and collection, of {count}", 32_768 * count)
     for objects in (800, 8_000):
         count = 80_000 // objects
         lines = churn(objects, count)
