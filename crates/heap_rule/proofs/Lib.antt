@@ -9,4 +9,10 @@ pub mod Joins
 pub mod Pasts
 pub mod Loads
 pub mod Looks
+pub mod Moments
+pub mod Gates
+pub mod Owns
+pub mod Rests
 pub mod Opens
+pub mod Closes
+pub mod Dirties

@@ -1,0 +1,5 @@
+use Rattle.heap_rule.proofs.Dirties.{dirties_lane}
+use Rattle.heap_rule.proofs.steps.set_dirty_by_lane.Goals as goal
+
+pub fetch_or-requires-clause-rule : goal.fetch_or-requires-clause-rule
+fetch_or-requires-clause-rule g c = let z = g.S.Shape.sizes in dirties_lane z c.args.lane g.S.Shape.lawful c.args.seat.now.id 8 c.args.seat.now.view c.requires.may
